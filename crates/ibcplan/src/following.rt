@@ -24,14 +24,18 @@ const UNSTORED: &str =
 const CHANGED: &str =
     "Go on with the release of ibcplan that began this journal, and with its turns as they were written; or begin another journal (docs/OPERATING.md).";
 
-/// Tells on standard error what the answer to a document that is refused doesn't say.
+/// Tells on standard error what the answer to a document that is refused doesn't say, unless it is to be quiet.
 #[derive(Drop)]
 struct Notices<'a, R> {
     rt: &'a R,
+    is_quiet: bool,
 }
 
 impl<R: Eprint> Watcher for Notices<'_, R> {
     fn refused(&self, fault: &Fault) {
+        if self.is_quiet {
+            return;
+        }
         match (fault.name, fault.path.as_str(), &fault.reason) {
             (FaultName::NotToml, _, Some(reason)) => {
                 let _ = eprint!(self.rt; "{fault}\n{reason}");
@@ -56,6 +60,7 @@ pub fn follow<'a, R: Host, G: Gate + Send + Sync + Drop + 'static, I: Read, J: J
     input: &mut I,
     workers: WorkerCount,
     form: Form,
+    is_quiet: bool,
     gate: G,
     journal: &mut J,
     output: &mut W,
@@ -72,7 +77,7 @@ pub fn follow<'a, R: Host, G: Gate + Send + Sync + Drop + 'static, I: Read, J: J
         return Err(ProgramError::NoMemory);
     };
     let workers = workers.count();
-    let notices = Notices { rt };
+    let notices = Notices { rt, is_quiet };
     let bytes = setup.bytes();
     match follow_over(
         rt, alloc, bytes, input, form, output, workers, &gate, &notices, journal,

@@ -52,11 +52,23 @@ impl Journal for FileJournal {
     ghost documents = { λ _. None };
 
     fn store(&mut self, document: &[u8]) -> io::Result<()> {
+        let document = without_number(document);
         match self.past.next() {
             Some(past) if past.as_slice() == document => Ok(()),
             Some(_) => Err(io::Error::new(io::ErrorKind::InvalidData, UNEXPECTED)),
             None => self.append(document),
         }
+    }
+}
+
+/// A document without the number that it may begin with: a turn of a script has none.
+fn without_number(document: &[u8]) -> &[u8] {
+    let Some(rest) = document.strip_prefix(b"turn = ".as_slice()) else {
+        return document;
+    };
+    match rest.iter().position(|byte| !byte.is_ascii_digit()) {
+        Some(end) if end > 0 => &rest[end..],
+        _ => document,
     }
 }
 
@@ -73,11 +85,11 @@ pub struct OpenedJournal<'a> {
 /// never answered.
 pub fn open_journal<'a, R: Host>(
     rt: &R,
-    setup: Option<&'a str>,
+    setup: Option<Input<'a>>,
     path: &'a str,
 ) -> Result<OpenedJournal<'a>, ProgramError<'a>> {
     let input = match setup {
-        Some(setup) => Some(setup_of(rt, setup)?),
+        Some(setup) => Some(checked(rt, setup)?),
         None => None,
     };
     let mut file = opened(rt, path, input.is_some())?;
@@ -114,12 +126,11 @@ fn check_digests<'a, R: Host>(rt: &R, path: &'a str, bytes: &[u8]) -> Result<(),
     }
 }
 
-/// A setup that a journal may begin with.
-fn setup_of<'a, R: Host>(rt: &R, setup: &'a str) -> Result<Input<'a>, ProgramError<'a>> {
-    let input = Input::read(rt, setup)?;
-    match check_setup(rt.alloc(), input.bytes()) {
-        Ok(()) => Ok(input),
-        Err(error) => Err(ProgramError::of_run(error, &input)),
+/// The setup, if a journal may begin with it.
+fn checked<'a, R: Host>(rt: &R, setup: Input<'a>) -> Result<Input<'a>, ProgramError<'a>> {
+    match check_setup(rt.alloc(), setup.bytes()) {
+        Ok(()) => Ok(setup),
+        Err(error) => Err(ProgramError::of_run(error, &setup)),
     }
 }
 

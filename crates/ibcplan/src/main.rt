@@ -6,6 +6,7 @@
 
 mod explain;
 mod explained;
+mod first_text;
 mod following;
 mod forms;
 mod health;
@@ -16,6 +17,7 @@ mod perform;
 mod progress;
 mod reporting;
 mod searching;
+mod verdict;
 
 use host::Host;
 use ibcplan_cli::{no_memory, request_of};

@@ -1,48 +1,134 @@
-//! The client messages of a script's last turn, made of the answers of nodes.
+//! The client messages and the transactions of a script's last turn, or of a setup's, made of the answers of nodes.
 ghost use Rattle.rb_script_types.specs.Script.{script_view, IsReadScript};
 
 use crate::host::Host;
-use ibcplan_errors::{Input, ProgramError};
-use ibcplan_folders::{files_of, lines_of, read_answers, write_files};
+use ibcplan_errors::{Input, ProgramError, status};
+use ibcplan_folders::{
+    Answers, ImportedText, PacketTexts, files_of, imported, lines_of, packet_texts, read_answers,
+    write_files,
+};
 use rb_base::Gate;
 use rb_core::Core;
+use rb_import_setup::{Sender, is_setup, read_setup};
 use rb_messages::PlannedUpdate;
 use rb_script_read::read_script;
 use rb_script_types::Script;
-use rb_sending::{planned_updates, shell_of};
+use rb_sending::{
+    PlannedBatch, TransactionFile, planned_batches, planned_updates, shell_of, transaction_files,
+    transactions_shell_of,
+};
 use rb_super::run_to_end;
 use std::alloc::{AllocError, Global};
 use std::thread::Threads;
 
-/// The folder of the answers, and the one that is made.
+/// The folder of the answers, with how a setup's are imported, and the folder that is made.
 #[derive(Clone, Copy)]
 pub struct Folders<'f> {
-    pub answers: &'f str,
+    pub answers: Answers<'f>,
     pub output: &'f str,
 }
 
-/// A relayer after a script's last turn, what this turn sends, and the shell file.
+/// The lines that tell of messages, or of the proofs that are asked for; those that tell what is left out; and the status
+/// to end with.
+#[derive(Drop)]
+pub struct MessageLines {
+    pub lines: String,
+    pub notices: String,
+    pub status: u8,
+}
+
+/// What is given: the text of a script, and who sends transactions to each of its chains.
+#[derive(Clone, Copy)]
+struct Given<'g> {
+    script: &'g [u8],
+    senders: &'g [Option<Sender>],
+}
+
+/// A relayer after a script's last turn, and what this turn sends.
 #[derive(Drop)]
 struct Sending {
     relayer: Core,
     updates: Vec<PlannedUpdate>,
-    shell: String,
+    batches: Vec<PlannedBatch>,
 }
 
-/// Writes the messages of the script that a file holds into a folder, and answers the lines that tell of them. Nothing is
-/// written where one of them isn't made.
-pub fn messages_of_script<'a, R: Host, G: Gate + Sync>(
+/// Writes the messages of the script or of the setup that a file holds into a folder, and answers the lines that tell of
+/// them. Nothing is written where one of an update isn't made, or where a proof is to be asked for.
+pub fn messages_of<'a, R: Host, G: Gate + Sync>(
     rt: &R,
     input: &Input<'a>,
     folders: Folders<'_>,
     gate: &G,
-) -> Result<String, ProgramError<'a>> {
-    let script = match read_script(rt.alloc(), input.bytes()) {
+) -> Result<MessageLines, ProgramError<'a>> {
+    match is_setup(rt.alloc(), input.bytes()) {
+        Ok(true) => messages_of_setup(rt, input, folders, gate),
+        Ok(false) => {
+            let given = Given {
+                script: input.bytes(),
+                senders: &[],
+            };
+            messages_by(rt, input, given, folders, gate)
+        }
+        Err(_) => Err(ProgramError::NoMemory),
+    }
+}
+
+/// The same of a setup: of the script that `import` makes of it and of the answers.
+fn messages_of_setup<'a, R: Host, G: Gate + Sync>(
+    rt: &R,
+    input: &Input<'a>,
+    folders: Folders<'_>,
+    gate: &G,
+) -> Result<MessageLines, ProgramError<'a>> {
+    let setup = match read_setup(rt.alloc(), input.bytes()) {
+        Ok(setup) => setup,
+        Err(error) => return Err(ProgramError::of_setup(error, input)),
+    };
+    let ImportedText {
+        script,
+        notices,
+        status,
+    } = imported(rt, input, folders.answers)?;
+    let given = Given {
+        script: script.as_bytes(),
+        senders: setup.senders.as_slice(),
+    };
+    let made = messages_by(rt, input, given, folders, gate)?;
+    with_notices(rt.alloc(), notices.as_str(), status, made)
+}
+
+/// The lines behind the notices of an import, and the status of the import where nothing else is told.
+fn with_notices<'a>(
+    alloc: Global,
+    notices: &str,
+    status: u8,
+    made: MessageLines,
+) -> Result<MessageLines, ProgramError<'a>> {
+    let told = made.notices.as_str();
+    match format!(in alloc; "{notices}{told}") {
+        Ok(notices) => Ok(MessageLines {
+            lines: made.lines,
+            notices,
+            status: made.status.max(status),
+        }),
+        Err(_) => Err(ProgramError::NoMemory),
+    }
+}
+
+/// The same of what a file gives.
+fn messages_by<'a, R: Host, G: Gate + Sync>(
+    rt: &R,
+    input: &Input<'a>,
+    given: Given<'_>,
+    folders: Folders<'_>,
+    gate: &G,
+) -> Result<MessageLines, ProgramError<'a>> {
+    let script = match read_script(rt.alloc(), given.script) {
         Ok(script) => script,
         Err(error) => return Err(ProgramError::of_run(error, input)),
     };
     match sending_of(rt, rt.alloc(), script, gate) {
-        Ok(sending) => written(rt, &sending, folders),
+        Ok(sending) => proved(rt, &sending, given.senders, folders),
         Err(_) => Err(ProgramError::NoMemory),
     }
 }
@@ -57,27 +143,95 @@ fn sending_of<R: Threads + Sync, G: Gate + Sync>(
 {
     let (report, relayer) = run_to_end(rt, alloc, script, 0, gate)?;
     let updates = planned_updates(alloc, &report, &relayer)?;
-    let shell = shell_of(alloc, &relayer, updates.as_slice())?;
+    let batches = planned_batches(alloc, &report, &relayer)?;
     Ok(Sending {
         relayer,
         updates,
-        shell,
+        batches,
     })
 }
 
-/// Reads the answers, makes the messages, and writes their files.
+/// Judges the proofs of packet messages; where some aren't there, they are asked for, and else the messages are written.
+fn proved<'a, R: Host>(
+    rt: &R,
+    sending: &Sending,
+    senders: &[Option<Sender>],
+    folders: Folders<'_>,
+) -> Result<MessageLines, ProgramError<'a>> {
+    let config = sending.relayer.config();
+    let batches = sending.batches.as_slice();
+    let PacketTexts {
+        texts,
+        wanted,
+        left_out,
+    } = packet_texts(rt, folders.answers.folder, config, senders, batches)?;
+    if !wanted.is_empty() {
+        return Ok(MessageLines {
+            lines: wanted,
+            notices: left_out,
+            status: status::PARTLY_LEFT_OUT,
+        });
+    }
+    let lines = written(rt, sending, senders, texts.as_slice(), folders)?;
+    let status = if left_out.is_empty() {
+        status::DONE
+    } else {
+        status::PARTLY_LEFT_OUT
+    };
+    Ok(MessageLines {
+        lines,
+        notices: left_out,
+        status,
+    })
+}
+
+/// Reads the answers on chains, makes the messages of updates and the transactions, and writes their files.
 fn written<'a, R: Host>(
     rt: &R,
     sending: &Sending,
+    senders: &[Option<Sender>],
+    packets: &[Vec<Option<String>>],
     folders: Folders<'_>,
 ) -> Result<String, ProgramError<'a>> {
     let chains = sending.relayer.config().chains.as_slice();
     let updates = sending.updates.as_slice();
-    let answers = read_answers(rt, folders.answers, chains, updates)?;
+    let batches = sending.batches.as_slice();
+    let answers = read_answers(rt, folders.answers.folder, chains, updates)?;
     let files = files_of(rt.alloc(), chains, answers.as_slice(), updates)?;
-    write_files(rt, folders.output, files.as_slice(), sending.shell.as_str())?;
-    match lines_of(rt.alloc(), updates) {
+    let made = files.as_slice();
+    let Ok(transactions) = transaction_files(rt.alloc(), chains, senders, batches, made, packets)
+    else {
+        return Err(ProgramError::NoMemory);
+    };
+    let transactions = transactions.as_slice();
+    let Ok(shell) = shell_for(rt.alloc(), sending, senders, transactions) else {
+        return Err(ProgramError::NoMemory);
+    };
+    write_files(rt, folders.output, made, transactions, shell.as_str())?;
+    match lines_of(rt.alloc(), updates, batches, transactions) {
         Ok(lines) => Ok(lines),
         Err(_) => Err(ProgramError::NoMemory),
     }
+}
+
+/// The shell file that sends the transactions, or where there are none the messages of the updates.
+fn shell_for(
+    alloc: Global,
+    sending: &Sending,
+    senders: &[Option<Sender>],
+    transactions: &[TransactionFile],
+) -> Result<String, AllocError> {
+    let updates = sending.updates.as_slice();
+    if transactions.is_empty() {
+        return shell_of(alloc, &sending.relayer, updates);
+    }
+    let batches = sending.batches.as_slice();
+    transactions_shell_of(
+        alloc,
+        &sending.relayer,
+        senders,
+        batches,
+        updates,
+        transactions,
+    )
 }

@@ -8,20 +8,23 @@ ghost use Rattle.ibcplan.specs.Status.{IsPlanWritten, IsConfirmed, IsDenied};
 
 use crate::explain::{AskedExplanation, Form, explain};
 use crate::explained::Explained;
+use crate::first_text::{FirstText, first_text, last_text};
 use crate::following::follow;
 use crate::forms::{commands_of_script, json_of_script};
 use crate::health::health_of_script;
 use crate::host::Host;
 use crate::journal::{OpenedJournal, open_journal};
-use crate::messages::{Folders, messages_of_script};
+use crate::messages::{Folders, MessageLines, messages_of};
 use crate::progress::Progress;
 use crate::reporting::{plan_status, refused_events};
-use ibcplan_cli::{Request, Wanted, WantedTurns, WorkerCount, setup_for};
-use ibcplan_errors::{Input, ProgramError, status};
+use crate::verdict::verdict_json;
+use ibcplan_cli::{Following, Request, Wanted, WantedTurns, WorkerCount, setup_for};
+use ibcplan_errors::{Input, ProgramError, STANDARD_INPUT, status};
 use ibcplan_folders::{Answers, ImportedText, WantedText, imported, wanted};
 use rb_base::{Counted, Gate, Sink, write_whole};
-use rb_follow::{Form as AnswerForm, NoJournal};
+use rb_follow::{Form as AnswerForm, NoJournal, greeting, json_of_fault};
 use rb_hermes::NamedClient;
+use rb_script_types::Version;
 use rb_text::{certify_texts, report_over};
 use rb_text_report::Source;
 use std::alloc::Global;
@@ -49,6 +52,7 @@ fn outcome_of<'a, R: Host>(
     request: Request<'a>,
     is_watched: bool,
 ) -> Result<u8, ProgramError<'a>> {
+    let is_json = request.is_json();
     let mut output = Explained::new(Counted::new(io::writer(rt)));
     match done_of(rt, request, is_watched, &mut output) {
         Ok(done) => {
@@ -56,7 +60,43 @@ fn outcome_of<'a, R: Host>(
             tell(rt, is_watched, &done);
             Ok(done.status)
         }
+        Err(failure) if is_json => Err(with_fault(rt.alloc(), failure, output)),
         Err(failure) => Err(failure.because_of(output.error())),
+    }
+}
+
+/// The failure, of which the fault of a text was written as an object of JSON; or that it couldn't be.
+fn with_fault<'a, R: Print>(
+    alloc: Global,
+    failure: ProgramError<'a>,
+    output: Explained<Counted<Printer<'_, R>>>,
+) -> ProgramError<'a> {
+    let mut output = output;
+    if let Err(error) = put_fault(alloc, &failure, &mut output) {
+        return error.because_of(output.error());
+    }
+    let failure = failure.because_of(output.error());
+    match (failure, flush(output.into_inner())) {
+        (ProgramError::Refused { .. }, Err(error)) => error,
+        (failure, _) => failure,
+    }
+}
+
+/// Writes the fault of a text as an object of JSON, where that is why there is no result.
+fn put_fault<'a, W: Sink>(
+    alloc: Global,
+    failure: &ProgramError<'a>,
+    output: &mut W,
+) -> Result<(), ProgramError<'a>> {
+    let ProgramError::Refused { fault, .. } = failure else {
+        return Ok(());
+    };
+    if output.failed() {
+        return Ok(());
+    }
+    match json_of_fault(alloc, None, fault) {
+        Ok(line) => write(line.as_str(), output),
+        Err(_) => Err(ProgramError::NoMemory),
     }
 }
 
@@ -105,17 +145,14 @@ fn done_of<'a, R: Host, W: Sink>(
 {
     match request {
         Request::Script { script, wanted } => script_file(rt, script, wanted, is_watched, output),
-        Request::Follow {
-            setup,
-            workers,
-            is_json,
-        } => follow_input(rt, setup, workers, is_json, is_watched, output),
+        Request::Follow { setup, following } => {
+            follow_input(rt, setup, following, is_watched, output)
+        }
         Request::FollowJournal {
             setup,
             journal,
-            workers,
-            is_json,
-        } => follow_journal(rt, setup, journal, workers, is_json, is_watched, output),
+            following,
+        } => follow_journal(rt, setup, journal, following, is_watched, output),
         Request::Import {
             setup,
             folder,
@@ -134,7 +171,10 @@ fn done_of<'a, R: Host, W: Sink>(
         Request::Certify {
             script,
             certificate,
-        } => certify_files(rt, script, certificate, output),
+            is_json,
+        } => certify_files(rt, script, certificate, is_json, output),
+        Request::CertifyInput { is_json } => certify_input(rt, is_json, output),
+        Request::Version => write_greeting(output),
     }
 }
 
@@ -202,9 +242,15 @@ fn write_wanted<'a, R: Host, W: Sink>(
         Wanted::Messages {
             folder,
             output: made,
+            is_verified,
         } => {
+            let answers = Answers {
+                folder,
+                is_all_or_nothing: false,
+                is_verified,
+            };
             let folders = Folders {
-                answers: folder,
+                answers,
                 output: made,
             };
             write_messages(rt, script, folders, progress, output)
@@ -285,9 +331,17 @@ fn write_messages<'a, R: Host, W: Sink>(
 ) -> Result<Done, ProgramError<'a>>
     requires { W.is_broken output.old ≡ false }
 {
-    let lines = messages_of_script(rt, script, folders, &progress)?;
+    let MessageLines {
+        lines,
+        notices,
+        status,
+    } = messages_of(rt, script, folders, &progress)?;
     write(lines.as_str(), output)?;
-    Ok(Done::quietly(status::DONE))
+    Ok(Done {
+        status,
+        refused_events: 0,
+        notices: Some(notices),
+    })
 }
 
 fn import_files<'a, R: Host, W: Sink>(
@@ -347,22 +401,23 @@ fn want_files<'a, R: Host, W: Sink>(
 fn follow_input<'a, R: Host, W: Sink>(
     rt: &R,
     setup: &'a str,
-    workers: WorkerCount,
-    is_json: bool,
+    following: Following,
     is_watched: bool,
     output: &mut W,
 ) -> Result<Done, ProgramError<'a>>
     requires { W.is_broken output.old ≡ false }
 {
-    let setup = Input::read(rt, setup)?;
+    let FirstText { text: setup, rest } = first_text(rt, setup)?;
     let progress = Progress::new(*rt, is_watched);
+    let mut input = Cursor::new(rest).chain(rt.reader());
     follow(
         rt,
         rt.alloc(),
         &setup,
-        &mut rt.reader(),
-        workers,
-        answer_form(is_json),
+        &mut input,
+        following.workers,
+        answer_form(following),
+        following.is_quiet,
         progress,
         &mut NoJournal,
         output,
@@ -374,27 +429,36 @@ fn follow_journal<'a, R: Host, W: Sink>(
     rt: &R,
     setup: Option<&'a str>,
     journal: &'a str,
-    workers: WorkerCount,
-    is_json: bool,
+    following: Following,
     is_watched: bool,
     output: &mut W,
 ) -> Result<Done, ProgramError<'a>>
     requires { W.is_broken output.old ≡ false }
 {
+    let (setup, rest) = match setup {
+        Some(path) => {
+            let FirstText { text, rest } = first_text(rt, path)?;
+            (Some(text), rest)
+        }
+        None => (None, Vec::new(rt.alloc())),
+    };
     let OpenedJournal {
         mut journal,
         setup,
         past,
     } = open_journal(rt, setup, journal)?;
     let progress = Progress::new(*rt, is_watched);
-    let mut input = Cursor::new(past).chain(rt.reader());
+    let mut input = Cursor::new(past)
+        .chain(Cursor::new(rest))
+        .chain(rt.reader());
     follow(
         rt,
         rt.alloc(),
         &setup,
         &mut input,
-        workers,
-        answer_form(is_json),
+        following.workers,
+        answer_form(following),
+        following.is_quiet,
         progress,
         &mut journal,
         output,
@@ -402,11 +466,12 @@ fn follow_journal<'a, R: Host, W: Sink>(
     Ok(Done::quietly(status::DONE))
 }
 
-fn answer_form(is_json: bool) -> AnswerForm {
-    if is_json {
-        AnswerForm::Json
+fn answer_form(following: Following) -> AnswerForm {
+    let has_labels = following.has_labels;
+    if following.is_json {
+        AnswerForm::Json { has_labels }
     } else {
-        AnswerForm::Text
+        AnswerForm::Text { has_labels }
     }
 }
 
@@ -414,13 +479,50 @@ fn certify_files<'a, R: Host, W: Sink>(
     rt: &R,
     script: &'a str,
     certificate: &'a str,
+    is_json: bool,
     output: &mut W,
 ) -> Result<Done, ProgramError<'a>>
     requires { W.is_broken output.old ≡ false }
 {
     let script = Input::read(rt, script)?;
     let certificate = Input::read(rt, certificate)?;
-    let status = certify(rt, rt.alloc(), &script, &certificate, output)?;
+    write_verdict(rt, &script, &certificate, is_json, output)
+}
+
+fn certify_input<'a, R: Host, W: Sink>(
+    rt: &R,
+    is_json: bool,
+    output: &mut W,
+) -> Result<Done, ProgramError<'a>>
+    requires { W.is_broken output.old ≡ false }
+{
+    let FirstText { text: script, rest } = first_text(rt, STANDARD_INPUT)?;
+    let certificate = last_text(rt, rest)?;
+    write_verdict(rt, &script, &certificate, is_json, output)
+}
+
+/// Writes the verdict on a certificate for a script, as a line or as JSON.
+fn write_verdict<'a, R: Host, W: Sink>(
+    rt: &R,
+    script: &Input<'a>,
+    certificate: &Input<'a>,
+    is_json: bool,
+    output: &mut W,
+) -> Result<Done, ProgramError<'a>>
+    requires { W.is_broken output.old ≡ false }
+{
+    let alloc = rt.alloc();
+    if !is_json {
+        let status = certify(rt, alloc, script, certificate, output)?;
+        return Ok(Done::quietly(status));
+    }
+    let mut line = Counted::new(Vec::new(alloc));
+    let status = certify(rt, alloc, script, certificate, &mut line)?;
+    let line = line.into_inner();
+    match verdict_json(alloc, line.as_slice()) {
+        Ok(json) => write(json.as_str(), output)?,
+        Err(_) => return Err(ProgramError::NoMemory),
+    }
     Ok(Done::quietly(status))
 }
 
@@ -460,6 +562,16 @@ fn plan<
             notices: None,
         }),
         Err(error) => Err(ProgramError::of_run(error, script)),
+    }
+}
+
+/// Writes what `follow --json` begins with, of the newest version.
+fn write_greeting<'a, W: Sink>(output: &mut W) -> Result<Done, ProgramError<'a>>
+    requires { W.is_broken output.old ≡ false }
+{
+    match write_whole(output, greeting(Version::Four)) {
+        Ok(()) => Ok(Done::quietly(status::DONE)),
+        Err(_) => Err(ProgramError::untaken()),
     }
 }
 

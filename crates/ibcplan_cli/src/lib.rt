@@ -2,8 +2,10 @@
 //! relayers' configurations.
 #![tactic(auto)]
 
+mod certify_request;
 mod command_line;
 mod explain_request;
+mod follow_request;
 mod health_request;
 mod messages_request;
 mod request;
@@ -12,6 +14,7 @@ mod setup_request;
 mod worker_count;
 
 pub use command_line::{no_memory, request_of};
+pub use follow_request::Following;
 pub use request::{Request, Wanted, WantedTurns};
 pub use setting_up::setup_for;
 pub use worker_count::WorkerCount;

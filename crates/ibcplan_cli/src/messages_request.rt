@@ -1,5 +1,5 @@
 //! The command line of `messages`.
-use crate::request::{FOLDER, Wanted, path, script_command};
+use crate::request::{FOLDER, VERIFIED, Wanted, flag, path, script_command};
 use clap::{ArgMatches, Command};
 use std::alloc::{AllocError, Global};
 
@@ -10,18 +10,32 @@ const DIR: &str = "DIR";
 const AFTER_MESSAGES: &str = "Examples (in the folder of the repository):
   ./ibcplan messages script.toml answers messages
   PROGRAM_1=simd OPTIONS_1='--from relayer --yes' sh messages/send.sh
+  ./ibcplan messages setup.toml answers messages
+  ./ibcplan messages --verified setup.toml answers messages
 
 FOLDER is that of the answers of which import made the script. DIR is new: it gets a
 file for each update of the last turn, in the order of the transactions, as
 'tx ibc client update CLIENT FILE' of the chains' programs reads it, and send.sh. A
-line for each message tells its file, its client and its transaction.";
+line for each message tells its file, its client and its transaction.
+
+In the place of SCRIPT the setup of import may stand, which is imported first, with
+the same notices and exit status, and with --verified as import --verified does.
+Hosts whose chains have signer, fee_denom and gas_price there get transactions with
+the updates and the packet messages, as 'tx sign' reads them. Where a proof isn't
+there, nothing is made (exit status 7): lines as those of want tell what to ask. A
+packet message whose proof fails is left out (exit status 7); standard error says why.";
 
 pub(crate) fn messages_command<'a>(alloc: Global) -> Result<Command<'a>, AllocError> {
     let about =
-        "Writes the client messages of a script's last turn, and a shell file that sends them";
+        "Writes the messages of a script's or a setup's last turn, and a shell file that sends them";
     script_command(alloc, MESSAGES, about, AFTER_MESSAGES)?
         .arg(path(alloc, FOLDER, "The folder of the answers of nodes"))?
-        .arg(path(alloc, DIR, "The folder that is made"))
+        .arg(path(alloc, DIR, "The folder that is made"))?
+        .arg(flag(
+            alloc,
+            VERIFIED,
+            "Of a setup: takes only headers that more than 2/3 of their set signed, by good verdicts",
+        ))
 }
 
 /// What `messages` is to write, or none where a word is missing.
@@ -29,5 +43,6 @@ pub(crate) fn messages_of<'a>(given: &ArgMatches<'a>) -> Option<Wanted<'a>> {
     Some(Wanted::Messages {
         folder: given.get_str(FOLDER)?,
         output: given.get_str(DIR)?,
+        is_verified: given.get_flag(VERIFIED),
     })
 }

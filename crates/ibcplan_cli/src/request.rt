@@ -1,14 +1,15 @@
 //! The command line: what the program is asked to do.
+use crate::certify_request::{CERTIFY, certify_command, certify_flaw, certify_of};
 use crate::explain_request::{
     EXPLAIN, PICTURE, explain_command, explanation_of, picture_command, picture_of,
 };
+use crate::follow_request::{FOLLOW, Following, follow_command, follow_of};
 use crate::health_request::{HEALTH, health_command, health_of};
 use crate::messages_request::{MESSAGES, messages_command, messages_of};
 use crate::setup_request::{HERMES, SETUP_COMMAND, clients_of, setup_command};
 use crate::worker_count::WorkerCount;
 use clap::error::ErrorKind;
 use clap::{Arg, ArgAction, ArgMatches, Command, Error, value_parser};
-use ibcplan_errors::STANDARD_INPUT;
 use rb_hermes::NamedClient;
 use rb_script_types::MAX_TURNS;
 use std::alloc::{AllocError, Global};
@@ -39,24 +40,44 @@ pub enum Request<'a> {
         setup: &'a str,
         folder: &'a str,
     },
-    /// Answer turns as they come, of a setup, by so many workers.
+    /// Answer turns as they come, of a setup.
     Follow {
         setup: &'a str,
-        workers: WorkerCount,
-        is_json: bool,
+        following: Following,
     },
     /// The same, and store each turn in a journal before it is answered; of the journal's own setup where none is given.
     FollowJournal {
         setup: Option<&'a str>,
         journal: &'a str,
-        workers: WorkerCount,
-        is_json: bool,
+        following: Following,
     },
     /// Judge a certificate.
     Certify {
         script: &'a str,
         certificate: &'a str,
+        is_json: bool,
     },
+    /// The same of a script and a certificate that both come on standard input.
+    CertifyInput {
+        is_json: bool,
+    },
+    /// Write which program this is, and what it reads and writes, as JSON.
+    Version,
+}
+
+impl Request<'_> {
+    /// Whether what is written is JSON; faults of texts are then, too.
+    pub fn is_json(&self) -> bool {
+        match self {
+            Request::Script { wanted, .. } => wanted.is_json(),
+            Request::Follow { following, .. } | Request::FollowJournal { following, .. } => {
+                following.is_json
+            }
+            Request::Certify { is_json, .. } | Request::CertifyInput { is_json } => *is_json,
+            Request::Version => true,
+            Request::Import { .. } | Request::Setup { .. } | Request::Want { .. } => false,
+        }
+    }
 }
 
 /// What is to be written about a script.
@@ -92,11 +113,23 @@ pub enum Wanted<'a> {
     Health {
         are_metrics: bool,
     },
-    /// The client messages of its last turn, made of the answers in a folder, into a new folder.
+    /// The messages of its last turn, or of that of the script that a setup makes, maybe of verified votes alone, made of
+    /// the answers in a folder, into a new folder.
     Messages {
         folder: &'a str,
         output: &'a str,
+        is_verified: bool,
     },
+}
+
+impl Wanted<'_> {
+    fn is_json(&self) -> bool {
+        match self {
+            Wanted::Json { .. } => true,
+            Wanted::Explanation { is_json, .. } => *is_json,
+            _ => false,
+        }
+    }
 }
 
 /// The turns of a script that are wanted.
@@ -130,30 +163,30 @@ const IMPORT: &str = "import";
 
 const WANT: &str = "want";
 
-const FOLLOW: &str = "follow";
-
-const CERTIFY: &str = "certify";
-
 pub(crate) const SCRIPT: &str = "SCRIPT";
 
 const SETUP: &str = "SETUP";
-
-const JOURNAL: &str = "journal";
 
 pub(crate) const FOLDER: &str = "FOLDER";
 
 const ALL_OR_NOTHING: &str = "all-or-nothing";
 
-const VERIFIED: &str = "verified";
+pub(crate) const VERIFIED: &str = "verified";
 
-const CERT: &str = "CERT";
+const VERSION: &str = "--version";
+
+const AS_JSON: &str = "--json";
 
 const AFTER_HELP: &str = "Examples (in the folder of the repository):
   ./ibcplan plan examples/smallest.toml
   ./ibcplan run --workers 4 examples/hundred_headers.toml
   ./ibcplan certify examples/smallest.toml examples/smallest.certificate
 
-Results go to standard output; what went wrong goes to standard error.
+Results go to standard output; what went wrong goes to standard error. With --json
+a fault of a text is an object on standard output, too.
+
+ibcplan --version --json tells the program, its format and the versions of scripts
+that it reads as JSON.
 
 Exit status:
   0  done; of certify: the plan is the cheapest
@@ -167,7 +200,8 @@ Exit status:
      or a settlement in it is refused; unless it is JSON, its lines that begin
      with 'refused' say which
   7  of import: the script is written, but without the clients and the paths whose
-     answers are refused; standard error says which";
+     answers are refused; standard error says which. Of messages the same, or a
+     packet message is left out, or proofs are to be asked for first";
 
 const AFTER_PLAN: &str = "Examples (in the folder of the repository):
   ./ibcplan plan examples/smallest.toml
@@ -212,35 +246,12 @@ left, nothing is written (exit status 1).";
 
 const AFTER_WANT: &str = "Examples (in the folder of the repository):
   ./ibcplan want setup.toml answers
-  examples/collect answers 07-tendermint-3 hub-4 RPC REST
+  relayer/ibcplan-relayer fetch setup.toml answers
 
 It writes a line for each answer that is to be fetched next, at most 30 for each
 node and each gateway: get, the chain whose node is to be asked, the path, and the
 file in FOLDER; then lines that say why. It writes nothing where no more is needed. A request that a node refused
 is not written again where its file is there with the ending .refused.";
-
-const AFTER_FOLLOW: &str = "Examples (in the folder of the repository):
-  ./ibcplan follow examples/follow/setup.toml < examples/follow/turns.txt
-  ./ibcplan follow --json --workers 4 setup.toml
-  ./ibcplan follow setup.toml --journal journal.toml
-
-SETUP is a script without turns. Each turn comes on standard input as a document of
-TOML with the turn's keys at its top, ended by a line ---. The answer, the turn's
-report or its fault, is written at once, with a line --- after it; with --json it is
-an object on a line. A document with a fault changes nothing. The answers are the
-report that plan writes for the script of the setup and the turns. In version 3
-heights and packets that no plan needs are forgotten, and an event of one is a fault
-(1033): leave it out.
-
-With --journal each turn is on the disk before it is answered. The file is a script
-that plan reads. Where it has turns their answers come first, and then those to new
-ones; its setup is then taken, and SETUP needn't be given.";
-
-const AFTER_CERTIFY: &str = "Examples (in the folder of the repository):
-  ./ibcplan certify examples/smallest.toml examples/smallest.certificate
-  ./ibcplan certify examples/smallest.toml - < examples/smallest.certificate
-
-It writes yes (exit status 0), or no and the reason (exit status 3).";
 
 /// A word that has to be given: the path of a file or of a folder.
 pub(crate) fn path<'a>(alloc: Global, name: &'static str, help: &'static str) -> Arg<'a> {
@@ -274,32 +285,6 @@ fn workers<'a>(alloc: Global) -> Arg<'a> {
         .value_parser(value_parser!(usize).range(1..=64))
         .default_value("1")
         .help("How many threads make step tables, scan the paths and plan for the clients, 1 to 64")
-}
-
-/// The workers of a follower: none where the option isn't given.
-fn follow_workers<'a>(alloc: Global) -> Arg<'a> {
-    Arg::new(alloc, WORKERS)
-        .long(WORKERS)
-        .value_name("K")
-        .value_parser(value_parser!(usize).range(1..=64))
-        .help(
-            "How many threads make step tables, scan the paths and plan for the clients, 1 to 64; without it none but the program's own",
-        )
-}
-
-/// The setup of a follower, which may come from its journal.
-fn follow_setup<'a>(alloc: Global) -> Result<Arg<'a>, AllocError> {
-    Arg::new(alloc, SETUP)
-        .help("The file of a script without turns; the journal's own where none is given")
-        .required_unless_present(JOURNAL)
-}
-
-fn journal<'a>(alloc: Global) -> Arg<'a> {
-    Arg::new(alloc, JOURNAL)
-        .long(JOURNAL)
-        .value_name("FILE")
-        .action(ArgAction::Set)
-        .help("Stores each turn in this file before it is answered, and goes on from there")
 }
 
 pub(crate) fn turn<'a>(alloc: Global) -> Arg<'a> {
@@ -350,12 +335,6 @@ fn commands_command<'a>(alloc: Global) -> Result<Command<'a>, AllocError> {
         .arg(last(alloc)?)
 }
 
-fn certify_command<'a>(alloc: Global) -> Result<Command<'a>, AllocError> {
-    let about = "Judges whether a plan is the cheapest for a script, or whether there is none";
-    let help = "The certificate's file: a plan that anybody made; - for standard input";
-    script_command(alloc, CERTIFY, about, AFTER_CERTIFY)?.arg(path(alloc, CERT, help))
-}
-
 fn import_command<'a>(alloc: Global) -> Result<Command<'a>, AllocError> {
     Command::new(alloc, IMPORT)
         .about("Writes the script that the saved answers of nodes make")
@@ -388,16 +367,6 @@ fn want_command<'a>(alloc: Global) -> Result<Command<'a>, AllocError> {
             "A script without events; - for standard input",
         ))?
         .arg(path(alloc, FOLDER, "The folder of the answers that are there"))
-}
-
-fn follow_command<'a>(alloc: Global) -> Result<Command<'a>, AllocError> {
-    Command::new(alloc, FOLLOW)
-        .about("Answers turns as they come on standard input, each by its report")
-        .after_help(AFTER_FOLLOW)
-        .arg(follow_setup(alloc)?)?
-        .arg(journal(alloc))?
-        .arg(follow_workers(alloc))?
-        .arg(flag(alloc, JSON, "Writes each answer as JSON"))
 }
 
 /// The command with one more subcommand.
@@ -450,45 +419,6 @@ fn command_line<'a>(alloc: Global) -> Result<Command<'a>, AllocError> {
     with_others(alloc, command)
 }
 
-/// What is wrong where both files are standard input, which can be read once only.
-fn twice_standard_input(alloc: Global) -> Result<Error, AllocError> {
-    certify_command(alloc)?.bin_name("ibcplan certify")?.error(
-        ErrorKind::ArgumentConflict,
-        "only one of <SCRIPT> and <CERT> can be standard input",
-    )
-}
-
-/// What is wrong where the setup of a follower is standard input, from which the turns come.
-fn setup_is_input(alloc: Global) -> Result<Error, AllocError> {
-    follow_command(alloc)?.bin_name("ibcplan follow")?.error(
-        ErrorKind::ArgumentConflict,
-        "<SETUP> can't be standard input: the turns come from there",
-    )
-}
-
-/// The request of `follow`, or none where a word is missing.
-fn follow_of<'a>(given: &ArgMatches<'a>) -> Option<Request<'a>> {
-    let is_json = given.get_flag(JSON);
-    let workers = match given.get_one(WORKERS) {
-        Some(count) => WorkerCount::new(count)?,
-        None => WorkerCount::none(),
-    };
-    let setup = given.get_str(SETUP);
-    if let Some(journal) = given.get_str(JOURNAL) {
-        return Some(Request::FollowJournal {
-            setup,
-            journal,
-            workers,
-            is_json,
-        });
-    }
-    Some(Request::Follow {
-        setup: setup?,
-        workers,
-        is_json,
-    })
-}
-
 /// What `plan` or `run` is to write, or none where a word is missing.
 fn plan_of<'a>(name: &str, given: &ArgMatches<'_>) -> Option<Wanted<'a>> {
     let is_strict = given.get_flag(STRICT);
@@ -526,14 +456,6 @@ fn folder_task_of<'a>(name: &str, given: &ArgMatches<'a>) -> Option<Request<'a>>
         folder,
         is_all_or_nothing: given.get_flag(ALL_OR_NOTHING),
         is_verified: given.get_flag(VERIFIED),
-    })
-}
-
-/// The request of `certify`, or none where a word is missing.
-fn certify_of<'a>(given: &ArgMatches<'a>) -> Option<Request<'a>> {
-    Some(Request::Certify {
-        script: given.get_str(SCRIPT)?,
-        certificate: given.get_str(CERT)?,
     })
 }
 
@@ -593,34 +515,6 @@ fn setup_of<'a>(alloc: Global, matches: &ArgMatches<'a>) -> Result<Option<Reques
     Ok(Some(Request::Setup { config, clients }))
 }
 
-/// What is wrong with a request, where something is: a command that takes two inputs from standard input.
-fn fault_of(alloc: Global, request: &Request<'_>) -> Result<Option<Error>, AllocError> {
-    match request {
-        Request::Certify {
-            script,
-            certificate,
-        } if *script == STANDARD_INPUT && *certificate == STANDARD_INPUT => {
-            Ok(Some(twice_standard_input(alloc)?))
-        }
-        Request::Follow { setup, .. } if *setup == STANDARD_INPUT => {
-            Ok(Some(setup_is_input(alloc)?))
-        }
-        Request::FollowJournal {
-            setup: Some(setup),
-            ..
-        } if *setup == STANDARD_INPUT => Ok(Some(setup_is_input(alloc)?)),
-        _ => Ok(None),
-    }
-}
-
-/// The request, unless something is wrong with it.
-fn sound<'a>(alloc: Global, request: Request<'a>) -> Result<Request<'a>, Error> {
-    match fault_of(alloc, &request)? {
-        Some(fault) => Err(fault),
-        None => Ok(request),
-    }
-}
-
 /// The request of words that were parsed by the command.
 fn request_of_words<'a>(
     alloc: Global,
@@ -631,14 +525,38 @@ fn request_of_words<'a>(
         return Ok(request);
     }
     match task_of(matches) {
-        Some(request) => sound(alloc, request),
-        None => Err(command.error(ErrorKind::MissingSubcommand, "a command is missing")?),
+        Some(request) => Ok(request),
+        None => Err(flaw_of(alloc, command, matches)?),
     }
+}
+
+/// What is wrong with words that make no request.
+fn flaw_of(
+    alloc: Global,
+    command: &mut Command<'_>,
+    matches: &ArgMatches<'_>,
+) -> Result<Error, AllocError> {
+    match matches.subcommand_matches(CERTIFY) {
+        Some(given) => certify_flaw(alloc, given),
+        None => command.error(ErrorKind::MissingSubcommand, "a command is missing"),
+    }
+}
+
+/// Whether the words ask which program this is, as JSON.
+fn asks_for_version(words: &[String]) -> bool {
+    if words.len() != 3 {
+        return false;
+    }
+    let (first, second) = (words[1].as_str(), words[2].as_str());
+    (first == VERSION && second == AS_JSON) || (first == AS_JSON && second == VERSION)
 }
 
 /// Reads the command line. An error is the text to show: what is wrong, or the help that was asked
 /// for.
 pub fn read_request<'a>(alloc: Global, words: &'a [String]) -> Result<Request<'a>, Error> {
+    if asks_for_version(words) {
+        return Ok(Request::Version);
+    }
     let mut command = command_line(alloc)?.bin_name("ibcplan")?;
     let matches = command.try_get_matches_from_mut(words)?;
     request_of_words(alloc, &mut command, &matches)

@@ -78,7 +78,42 @@ pub fn advice_for(name: FaultName, path: &str) -> &'static str {
 pub fn setup_advice_for(name: FaultName, path: &str) -> &'static str {
     match name {
         FaultName::UnknownKey => setup_keys_at(path),
+        FaultName::MissingKey | FaultName::WrongType if is_of_chain(path) => chain_type_at(path),
+        FaultName::BadIdentifier if is_of_chain(path) => chain_text_at(path),
+        FaultName::BadKind if is_of_chain(path) => {
+            "client_message is 'header' for a chain with ibc-go before version 7, else 'client_message'"
+        }
         _ => advice_for(name, path),
+    }
+}
+
+/// Whether a path is that of a key of a chain.
+fn is_of_chain(path: &str) -> bool {
+    let (table, _) = table_and_key(path);
+    key_of(table) == "chain"
+}
+
+/// What belongs at a key of a setup's chain.
+fn chain_type_at(path: &str) -> &'static str {
+    match key_of(path) {
+        "signer" => "the account that signs transactions on this chain belongs here, in quotes",
+        "fee_denom" => "the coin that fees are paid in belongs here, as 'uatom'",
+        "gas_price" => {
+            "a numerator and a denominator belong here, as [25, 1000]: the coins for a unit of gas"
+        }
+        "gas_factor" => {
+            "a numerator and a denominator belong here, as [6, 5]: how many times the planned gas is the limit"
+        }
+        _ => type_at(path),
+    }
+}
+
+/// Which texts may stand at a key of a setup's chain.
+fn chain_text_at(path: &str) -> &'static str {
+    match key_of(path) {
+        "signer" => "an account has 1 to 128 letters and digits",
+        "fee_denom" => "a coin has 1 to 128 letters, digits and / : . _ -",
+        _ => advice_for(FaultName::BadIdentifier, path),
     }
 }
 
@@ -104,7 +139,7 @@ fn setup_keys_at(path: &str) -> &'static str {
             "there is no such key here; a setup has version, chain, client, path and turn; goal and settle belong into a turn, as [[turn.goal]]"
         }
         "chain" => {
-            "a chain of a setup has id alone; TOML puts a key that stands after [[chain]] into that chain"
+            "a chain of a setup has id and, for transactions, signer, fee_denom, gas_price, gas_factor and client_message; TOML puts a key that stands after [[chain]] into that chain"
         }
         "path" => {
             "a path of a setup has id, source, dest, order, first, forward, back, gas, wait_ns, port, channel, counterparty_port and counterparty_channel"
@@ -192,9 +227,10 @@ fn range_of(key: &str) -> &'static str {
         "wait_ns" => "a wait is from 0 to 2^63 - 1 nanoseconds",
         "validators" => "a power is from 1 to 2^60 - 1",
         "labels" => "a label's height is from 1, its fee and its count from 0 to 2^63 - 1",
+        "gas_factor" => "a factor isn't below 0, and its denominator from 1 on",
         "max_gas" => "a gas limit is from 1 to 10^15",
         "max_msg_num" => "a number of messages is from 1 to 10,000",
-        "gas_price" => "a price isn't below 0",
+        "gas_price" => "a price isn't below 0, and its denominator from 1 on",
         _ => "this number is too small or too big",
     }
 }

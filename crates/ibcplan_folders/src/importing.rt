@@ -2,7 +2,7 @@
 //! paths whose answers are refused.
 ghost use Rattle.std.specs.Prelude.{◌≡◌, IfOk, MatchOption, is_some, slice_get, string_bytes, true};
 ghost use Rattle.sha2.specs.Sha256.{sha256};
-ghost use Rattle.rb_import_answers.specs.Answers.{answer_view, told_in, verdicts_file};
+ghost use Rattle.rb_import_answers.specs.Answers.{answer_view, told_in, verdicts_file, without_votes};
 ghost use Rattle.rb_import_answers.specs.Revisions.{IsRevision};
 ghost use Rattle.rb_import.specs.Openings.{Opens, hold_verdicts};
 ghost use Rattle.ibcplan_folders.specs.Files.{HasVerdicts, IsScriptOfRest, TellsIn, signatures_of};
@@ -284,7 +284,7 @@ fn answers_of<'a, R: FileSystem>(
     since: u64,
     failures: &mut Vec<Failure<'a>>,
 ) -> Result<Vec<Saved>, ProgramError<'a>> {
-    match read_folder(rt, source.folder, id, since) {
+    match read_folder(rt, source.folder, id, since, Votes::LeftOut) {
         Ok(saved) => Ok(saved),
         Err(error) if source.is_all_or_nothing || !is_of_answers(&error) => Err(error),
         Err(error) => {
@@ -310,19 +310,27 @@ pub fn add<'a, T: Drop>(items: &mut Vec<T>, item: T) -> Result<(), ProgramError<
     }
 }
 
+/// Whether the votes of commits are kept; a script needs their flags and addresses alone.
+#[derive(Clone, Copy)]
+pub enum Votes {
+    Kept,
+    LeftOut,
+}
+
 /// Reads the answers in the folder of an identifier: its files `*.json`, by name.
-fn read_folder<'a, R: FileSystem>(
+pub fn read_folder<'a, R: FileSystem>(
     rt: &R,
     folder: &str,
     id: &str,
     since: u64,
+    votes: Votes,
 ) -> Result<Vec<Saved>, ProgramError<'a>> {
     let path = path_in(rt.alloc(), folder, id)?;
     let names = match names_in(rt, path.as_str()) {
         Ok(names) => names,
         Err(error) => return Err(ProgramError::of_file(rt.alloc(), path.as_str(), error)),
     };
-    read_files(rt, path.as_str(), names.as_slice(), since)
+    read_files(rt, path.as_str(), names.as_slice(), since, votes)
 }
 
 /// The path of what a folder has under a name.
@@ -352,13 +360,34 @@ fn read_files<'a, R: FileSystem>(
     folder: &str,
     names: &[String],
     since: u64,
+    votes: Votes,
 ) -> Result<Vec<Saved>, ProgramError<'a>> {
     let mut answers = Vec::new(rt.alloc());
     for name in names {
         let saved = read_file(rt, folder, name.as_str(), since)?;
-        add(&mut answers, saved)?;
+        match votes {
+            Votes::Kept => add(&mut answers, saved)?,
+            Votes::LeftOut => add(&mut answers, without_votes(rt.alloc(), saved))?,
+        }
     }
     Ok(answers)
+}
+
+fn without_votes(alloc: Global, saved: Saved) -> Saved
+    ensures file { result.file ≡ saved.file }
+    ensures digest { result.digest ≡ saved.digest }
+    ensures answer { answer_view result.answer ≡ without_votes (answer_view saved.answer) }
+{
+    let Saved {
+        file,
+        digest,
+        answer,
+    } = saved;
+    Saved {
+        file,
+        digest,
+        answer: answer.without_votes(alloc),
+    }
 }
 
 /// Reads the answer in a file.
@@ -382,7 +411,7 @@ fn read_file<'a, R: FileSystem>(
 
 /// The answer that the bytes of a folder's file of this name hold, of a client's records those of this revision and of later
 /// ones. Verdicts count only in the file `verdicts.json`.
-pub fn saved_of<'a>(
+fn saved_of<'a>(
     alloc: Global,
     folder: &str,
     name: &str,

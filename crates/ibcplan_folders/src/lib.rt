@@ -6,9 +6,11 @@ mod file_system;
 mod importing;
 mod left_out;
 mod messaging;
+mod packets;
 mod wanting;
 
 pub use file_system::FileSystem;
 pub use importing::{Answers, ImportedText, imported};
 pub use messaging::{files_of, lines_of, read_answers, write_files};
+pub use packets::{PacketTexts, packet_texts};
 pub use wanting::{WantedText, wanted};

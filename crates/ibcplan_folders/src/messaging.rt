@@ -1,11 +1,18 @@
-//! The files of messages: the answers on chains are read with their contents, and a new folder is filled.
+//! The files of messages: the answers on chains are read, and a new folder is filled.
+ghost use Rattle.std.specs.Prelude.{◌≡◌, IfOk, map, string_bytes};
+ghost use Rattle.std.specs.List.{enumerate_from};
+ghost use Rattle.rb_messages.specs.Names.{file_name};
+ghost use Rattle.ibcplan_folders.specs.Messages.{AreMessagesBy};
+
 use crate::file_system::FileSystem;
-use crate::importing::{add, names_in, path_in, read_bytes, saved_of};
+use crate::importing::{Votes, add, path_in, read_folder};
 use ibcplan_errors::ProgramError;
 use rb_base::ChainId;
+use rb_import_check::Saved;
 use rb_messages::{
-    ChainAnswers, MessageError, MessageFile, PlannedUpdate, file_name, message_files, seen_chains,
+    MessageError, MessageFile, PlannedUpdate, file_name, message_files, seen_chains,
 };
+use rb_sending::{PlannedBatch, TransactionFile};
 use std::alloc::{AllocError, Global};
 use std::fs;
 
@@ -15,13 +22,13 @@ pub fn read_answers<'a, R: FileSystem>(
     folder: &str,
     chains: &[ChainId],
     updates: &[PlannedUpdate],
-) -> Result<Vec<ChainAnswers>, ProgramError<'a>> {
+) -> Result<Vec<Vec<Saved>>, ProgramError<'a>> {
     let mut answers = Vec::new(rt.alloc());
     for (place, chain) in chains.iter().enumerate() {
         let one = if is_updated(updates, place) {
-            answers_on(rt, folder, chain)?
+            read_folder(rt, folder, chain.as_str(), 0, Votes::Kept)?
         } else {
-            no_answers(rt.alloc())
+            Vec::new(rt.alloc())
         };
         add(&mut answers, one)?;
     }
@@ -33,55 +40,16 @@ fn is_updated(updates: &[PlannedUpdate], place: usize) -> bool {
     updates.iter().any(|update| update.chain == place)
 }
 
-fn no_answers(alloc: Global) -> ChainAnswers {
-    ChainAnswers {
-        saved: Vec::new(alloc),
-        contents: Vec::new(alloc),
-    }
-}
-
-/// The answers on a chain, in the order of their files' names.
-fn answers_on<'a, R: FileSystem>(
-    rt: &R,
-    folder: &str,
-    chain: &ChainId,
-) -> Result<ChainAnswers, ProgramError<'a>> {
-    let path = path_in(rt.alloc(), folder, chain.as_str())?;
-    let names = match names_in(rt, path.as_str()) {
-        Ok(names) => names,
-        Err(error) => return Err(ProgramError::of_file(rt.alloc(), path.as_str(), error)),
-    };
-    let mut answers = no_answers(rt.alloc());
-    for name in &names {
-        read_into(rt, path.as_str(), name.as_str(), &mut answers)?;
-    }
-    Ok(answers)
-}
-
-/// Reads the answer in a file of a folder.
-fn read_into<'a, R: FileSystem>(
-    rt: &R,
-    folder: &str,
-    name: &str,
-    answers: &mut ChainAnswers,
-) -> Result<(), ProgramError<'a>> {
-    let file = path_in(rt.alloc(), folder, name)?;
-    let content = match read_bytes(rt, file.as_str()) {
-        Ok(content) => content,
-        Err(error) => return Err(ProgramError::of_file(rt.alloc(), file.as_str(), error)),
-    };
-    let saved = saved_of(rt.alloc(), folder, name, content.as_slice(), 0)?;
-    add(&mut answers.saved, saved)?;
-    add(&mut answers.contents, content)
-}
-
 /// The files of the messages of updates, by the answers on each chain.
 pub fn files_of<'a>(
     alloc: Global,
     chains: &[ChainId],
-    answers: &[ChainAnswers],
+    answers: &[Vec<Saved>],
     updates: &[PlannedUpdate],
-) -> Result<Vec<MessageFile>, ProgramError<'a>> {
+) -> Result<Vec<MessageFile>, ProgramError<'a>>
+    ensures names { IfOk result (λ files. map (λ f. string_bytes f.name) files.items ≡ map (λ p. file_name p.0 p.1) (enumerate_from 0 updates.now)) }
+    ensures messages { IfOk result (λ files. AreMessagesBy chains.now answers.now updates.now files.items) }
+{
     match made_files(alloc, chains, answers, updates) {
         Ok(files) => Ok(files),
         Err(error) => Err(refused(alloc, &error)),
@@ -91,11 +59,14 @@ pub fn files_of<'a>(
 fn made_files<'b>(
     alloc: Global,
     chains: &'b [ChainId],
-    answers: &'b [ChainAnswers],
+    answers: &'b [Vec<Saved>],
     updates: &[PlannedUpdate],
-) -> Result<Vec<MessageFile>, MessageError<'b>> {
+) -> Result<Vec<MessageFile>, MessageError<'b>>
+    ensures names { IfOk result (λ files. map (λ f. string_bytes f.name) files.items ≡ map (λ p. file_name p.0 p.1) (enumerate_from 0 updates.now)) }
+    ensures messages { IfOk result (λ files. AreMessagesBy chains.entry.now answers.entry.now updates.now files.items) }
+{
     match seen_chains(alloc, chains, answers) {
-        Ok(seen) => message_files(alloc, chains, seen.as_slice(), answers, updates),
+        Ok(seen) => message_files(alloc, chains, seen.as_slice(), updates),
         Err(error) => Err(error),
     }
 }
@@ -111,17 +82,21 @@ fn refused<'a>(alloc: Global, error: &MessageError<'_>) -> ProgramError<'a> {
     }
 }
 
-/// Writes files into a new folder, and the shell file that sends them.
+/// Writes the files of messages and of transactions into a new folder, and the shell file that sends them.
 pub fn write_files<'a, R: FileSystem>(
     rt: &R,
     folder: &str,
     files: &[MessageFile],
+    transactions: &[TransactionFile],
     shell: &str,
 ) -> Result<(), ProgramError<'a>> {
     if let Err(error) = fs::create_dir(rt, folder) {
         return Err(ProgramError::of_new_file(rt.alloc(), folder, error));
     }
     for file in files {
+        write_file(rt, folder, file.name.as_str(), file.text.as_str())?;
+    }
+    for file in transactions {
         write_file(rt, folder, file.name.as_str(), file.text.as_str())?;
     }
     write_file(rt, folder, "send.sh", shell)
@@ -140,8 +115,13 @@ fn write_file<'a, R: FileSystem>(
     }
 }
 
-/// A line for each message, in the order in which they are sent.
-pub fn lines_of(alloc: Global, updates: &[PlannedUpdate]) -> Result<String, AllocError> {
+/// A line for the message of each update, in the order in which they are sent, then one for each transaction.
+pub fn lines_of(
+    alloc: Global,
+    updates: &[PlannedUpdate],
+    batches: &[PlannedBatch],
+    transactions: &[TransactionFile],
+) -> Result<String, AllocError> {
     let mut text = String::new(alloc);
     for (place, update) in updates.iter().enumerate() {
         let file = file_name(alloc, place, update)?;
@@ -149,5 +129,27 @@ pub fn lines_of(alloc: Global, updates: &[PlannedUpdate]) -> Result<String, Allo
         let transaction = update.transaction;
         writeln!(text, "{file} client {client} transaction {transaction}")?;
     }
+    for transaction in transactions {
+        push_transaction(&mut text, batches, transaction)?;
+    }
     Ok(text)
+}
+
+/// Adds the line of a transaction: its file, its client, its number in the batch, and how many messages it has.
+fn push_transaction(
+    text: &mut String,
+    batches: &[PlannedBatch],
+    transaction: &TransactionFile,
+) -> Result<(), AllocError> {
+    let Some(batch) = batches.get(transaction.batch) else {
+        return Ok(());
+    };
+    let file = transaction.name.as_str();
+    let client = batch.client.as_str();
+    let number = transaction.number;
+    let count = transaction.messages;
+    writeln!(
+        text,
+        "{file} client {client} transaction {number} messages {count}"
+    )
 }

@@ -21,7 +21,7 @@ use Rattle.rb_text_report.specs.Report.{turn_text, numbered_lines}
 use Rattle.rb_follow.specs.Tidying.{least_to_go, forgets, raised}
 use Rattle.rb_follow.specs.Reports.{AreReportsIn}
 use Rattle.rb_follow.specs.Answers.{reports_in}
-use Rattle.rb_follow.specs.Followers.{Following, planned, refused, most_events, tidied, after_report}
+use Rattle.rb_follow.specs.Followers.{Following, planned, refused, most_events, emptied, tidied, after_report}
 use Rattle.rb_follow.specs.Laws.{BeginningsAreReported, AnswersAreReports, IsForgetful, ForgettingChangesNoAnswer, AnswersAreLines}
 
 beginnings : (s : Standing) (ts : List Turn) (rs : Report) (count : ℕ) → AreTurnReports s ts rs → AreTurnReports s (take count ts) (take count rs)
@@ -58,16 +58,14 @@ same_by true f t e = e
 
 -- a follower that is tidied: its standing, where its version forgets and where it doesn't
 keeps_config : (f : Following) → (tidied f).config ≡ f.config
-keeps_config f = same_by (forgets f.config.version f.standing) f
-    (record f { events = 0; standing = rest_at_floors f.standing; forgotten = raised f.forgotten (floors_of f.standing) }) refl
+keeps_config f = same_by (forgets f.config.version f.standing) f (emptied f) refl
 
 same_turns : (b : Bool) (f t : Following) → t.turns ≡ f.turns → (if b then t else f).turns ≡ f.turns
 same_turns false f t e = refl
 same_turns true f t e = e
 
 keeps_turns : (f : Following) → (tidied f).turns ≡ f.turns
-keeps_turns f = same_turns (forgets f.config.version f.standing) f
-    (record f { events = 0; standing = rest_at_floors f.standing; forgotten = raised f.forgotten (floors_of f.standing) }) refl
+keeps_turns f = same_turns (forgets f.config.version f.standing) f (emptied f) refl
 
 abbrev stands : (v : Version) → Standing → Standing
 stands One s = s
@@ -82,8 +80,7 @@ stands_by Three s = left_by (has_many_to_forget least_to_go s) s
 stands_by Four s = left_by (has_many_to_forget least_to_go s) s
 
 left_standing : (f : Following) → (tidied f).standing ≡ stands f.config.version f.standing
-left_standing f = tidied_by (forgets f.config.version f.standing) f
-    (record f { events = 0; standing = rest_at_floors f.standing; forgotten = raised f.forgotten (floors_of f.standing) })
+left_standing f = tidied_by (forgets f.config.version f.standing) f (emptied f)
     ∙ stands_by f.config.version f.standing
 
 none_in : (v : Version) (s : Standing) → AreReportsIn v s [] []

@@ -1,5 +1,5 @@
 -- A follower's steps, over what it is made of.
-use Rattle.std.proofs.Common.{◌≡◌, ℕ, ◌+◌, ◌<◌, ◌≤◌, true, false, List, [], Result, Ok, Err, IfOk, OnOk, refl, sym, ap, subst, ◌∙◌, arith}
+use Rattle.std.proofs.Common.{◌≡◌, ℕ, ◌+◌, ◌<◌, ◌≤◌, Bool, true, false, List, [], Option, Result, Ok, Err, IfOk, OnOk, refl, sym, ap, subst, ◌∙◌, arith}
 use Rattle.std.specs.declared.alloc.Global.{Global}
 use Rattle.rb_core.specs.Core.{Core, state_in}
 use Rattle.rb_core_model.specs.Forgetting.{floors_of, rest_at_floors}
@@ -20,7 +20,8 @@ use Rattle.rb_super_turn.specs.Phases.{standing_in, HasLogRoom, IsLater}
 use Rattle.rb_super_turn.specs.Report.{TurnReport}
 use Rattle.rb_super_turn.specs.Turns.{IsTurnReport, after_turn}
 use Rattle.rb_follow.specs.Setups.{setup_of}
-use Rattle.rb_follow.specs.Followers.{Following, begun_with, beginning, max_turns, most_events, next_turn, Answer, planned, refused, IsRight, IsAnswerFor, IsAnswer, tidied}
+use Rattle.rb_follow.specs.Followers.{Following, begun_with, beginning, max_turns, most_events, read_turn, next_turn, Refusal, faulty, refusing, turn_behind, Answer, planned, refused, IsRight, IsAnswerFor, IsAnswer, room_again, tidied}
+use Rattle.rb_follow.specs.Numbers.{number_text, numbered}
 use Rattle.rb_follow.specs.Tidying.{forgets, raised}
 use Rattle.rb_follow.specs.Seen.{IsInOrder}
 
@@ -97,12 +98,13 @@ stays_in_order c core same next paths turns events count t e order few room is l
 -- ---- an answer
 
 -- what is left of a follower
-pub tidies : (f : Following) (standing : Standing) (before floors forgotten : List ℕ) → forgets f.config.version f.standing ≡ true → standing ≡ rest_at_floors f.standing
+pub tidies : (f : Following) (reading : Reading) (standing : Standing) (before floors forgotten : List ℕ) → forgets f.config.version f.standing ≡ true
+    → reading ≡ room_again f.config.version f.reading → standing ≡ rest_at_floors f.standing
     → before ≡ f.forgotten → floors ≡ floors_of f.standing → forgotten ≡ raised before floors
-    → record f { events = 0; standing = standing; forgotten = forgotten } ≡ tidied f
-tidies f standing before floors forgotten does left same lowest are =
+    → record f { reading = reading; events = 0; standing = standing; forgotten = forgotten } ≡ tidied f
+tidies f reading standing before floors forgotten does room left same lowest are =
     let raise : forgotten ≡ raised f.forgotten (floors_of f.standing) = are ∙ (λ i. raised (same i) (lowest i)) in
-    rw does (λ i. record f { events = 0; standing = left i; forgotten = raise i })
+    rw does (λ i. record f { reading = room i; events = 0; standing = left i; forgotten = raise i })
 
 pub stays : (f : Following) → forgets f.config.version f.standing ≡ false → f ≡ tidied f
 stays f not_now = rw not_now refl
@@ -121,19 +123,29 @@ answers c core same next turns events count forgotten reading read left t r g e 
       (tidy ∙ (λ i. tidied (record { config = c; turns = turns + 1; reading = l i; events = n i; standing = after i; forgotten = forgotten }))),
     )
 
--- the answer to a document that was read so
-pub answers_document : {X : Type 0} (told : X → Answer) (after : X → Following) (f : Following) (bytes : List ℕ) (read : Result (Turn Global × Reading) Fault) (r : Result X RunError)
-    → next_turn f bytes ≡ read → IfOk r (λ x. IsAnswerFor f read (told x) (after x)) → IfOk r (λ x. IsAnswer f bytes (told x) (after x))
-answers_document told after f bytes read r e h =
-    subst (λ (y : Result (Turn Global × Reading) Fault). IfOk r (λ x. IsAnswerFor f y (told x) (after x))) (sym e) h
+-- the answer to a document that was read so behind its number, if it has one
+pub answers_body : {X : Type 0} (told : X → Answer) (after : X → Following) (f : Following) (n : Option ℕ) (bytes : List ℕ) (x : Turn Global × Reading) (r : Result X RunError)
+    → read_turn f bytes ≡ Ok x → IfOk r (λ y. IsAnswerFor f (Ok x) (told y) (after y)) → IfOk r (λ y. IsAnswerFor f (refusing n (read_turn f bytes)) (told y) (after y))
+answers_body told after f n bytes x r e h =
+    subst (λ (read : Result (Turn Global × Reading) Refusal). IfOk r (λ y. IsAnswerFor f read (told y) (after y))) (sym (ap (refusing n) e)) h
 
-pub right_document : {X : Type 0} (f : Following) (bytes : List ℕ) (read : Result (Turn Global × Reading) Fault) (r : Result X RunError)
-    → next_turn f bytes ≡ read → OnOk r (IsRight f read) → OnOk r (IsRight f (next_turn f bytes))
-right_document f bytes read r e h = subst (λ (y : Result (Turn Global × Reading) Fault). OnOk r (IsRight f y)) (sym e) h
+pub right_body : {X : Type 0} (f : Following) (n : Option ℕ) (bytes : List ℕ) (x : Turn Global × Reading) (r : Result X RunError)
+    → read_turn f bytes ≡ Ok x → OnOk r (IsRight f (Ok x)) → OnOk r (IsRight f (refusing n (read_turn f bytes)))
+right_body f n bytes x r e h = subst (λ (read : Result (Turn Global × Reading) Refusal). OnOk r (IsRight f read)) (sym (ap (refusing n) e)) h
 
 -- the answer to one that was refused
-pub refuses : (f : Following) (bytes : List ℕ) (fault : Fault) → next_turn f bytes ≡ Err fault → IsAnswer f bytes (refused fault) f
-refuses f bytes fault e = subst (λ (y : Result (Turn Global × Reading) Fault). IsAnswerFor f y (refused fault) f) (sym e) (refl, refl)
+pub refuses : (f : Following) (n : Option ℕ) (bytes : List ℕ) (fault : Fault) → read_turn f bytes ≡ Err fault → IsAnswerFor f (refusing n (read_turn f bytes)) (refused (faulty n fault)) f
+refuses f n bytes fault e = subst (λ (read : Result (Turn Global × Reading) Refusal). IsAnswerFor f read (refused (faulty n fault)) f) (sym (ap (refusing n) e)) (refl, refl)
 
-pub right_refused : (f : Following) (bytes : List ℕ) (fault : Fault) → next_turn f bytes ≡ Err fault → IsRight f (next_turn f bytes)
-right_refused f bytes fault e = subst (IsRight f) (sym e) tt
+pub right_refused : (f : Following) (n : Option ℕ) (bytes : List ℕ) (fault : Fault) → read_turn f bytes ≡ Err fault → IsRight f (refusing n (read_turn f bytes))
+right_refused f n bytes fault e = subst (IsRight f) (sym (ap (refusing n) e)) tt
+
+-- the answer to a document of which so much stands behind its number
+pub answers_document : {X : Type 0} (told : X → Answer) (after : X → Following) (f : Following) (bytes : List ℕ) (opened : Option (Bool × List ℕ)) (r : Result X RunError)
+    → numbered (number_text (f.turns + 1)) bytes ≡ opened → IfOk r (λ y. IsAnswerFor f (turn_behind f opened) (told y) (after y)) → IfOk r (λ y. IsAnswer f bytes (told y) (after y))
+answers_document told after f bytes opened r e h =
+    subst (λ (read : Result (Turn Global × Reading) Refusal). IfOk r (λ y. IsAnswerFor f read (told y) (after y))) (sym (ap (turn_behind f) e)) h
+
+pub right_document : {X : Type 0} (f : Following) (bytes : List ℕ) (opened : Option (Bool × List ℕ)) (r : Result X RunError)
+    → numbered (number_text (f.turns + 1)) bytes ≡ opened → OnOk r (IsRight f (turn_behind f opened)) → OnOk r (IsRight f (next_turn f bytes))
+right_document f bytes opened r e h = subst (λ (read : Result (Turn Global × Reading) Refusal). OnOk r (IsRight f read)) (sym (ap (turn_behind f) e)) h

@@ -10,7 +10,6 @@ use Rattle.rb_script_types.specs.Config.{Config}
 use Rattle.rb_script_types.specs.Script.{Turn}
 use Rattle.rb_script_config.specs.Paths.{path_ids}
 use Rattle.rb_script_read.specs.Turns.{Reading}
-use Rattle.rb_script_toml.specs.Faults.{Fault}
 use Rattle.rb_super_scripts.specs.AsEvents.{turn_as_events}
 use Rattle.rb_super_turn.specs.Report.{TurnReport}
 use Rattle.rb_super_turn.specs.Script.{IsTurn}
@@ -18,7 +17,7 @@ use Rattle.rb_super_turn.specs.Turns.{after_turn}
 use Rattle.rb_text_report.proofs.Beginnings.{appends-then, appends-none, beginning-none, beginning-then}
 use Rattle.rb_follow.specs.declared.told.Form.{Form}
 use Rattle.rb_follow.specs.Documents.{Document}
-use Rattle.rb_follow.specs.Followers.{Following, Answer, planned, refused, most_events, tidied, after_report, turn_in, IsAnswerFor, IsRight}
+use Rattle.rb_follow.specs.Followers.{Following, Answer, planned, refused, Refusal, most_events, emptied, tidied, after_report, turn_in, IsAnswerFor, IsRight}
 use Rattle.rb_follow.specs.Tidying.{forgets, raised}
 use Rattle.rb_follow.specs.Answers.{answer_text}
 use Rattle.rb_follow.specs.Journals.{Outs, StoresAll, whole_of, accepted}
@@ -30,7 +29,7 @@ use Rattle.rb_follow.specs.Headline.{AreAnswers, Answered, answers_text, Told, B
 tidied-config : (f : Following) → (tidied f).config ≡ f.config
 tidied-config f = go (forgets f.config.version f.standing)
   where
-    go : (b : Bool) → (if b then record f { events = 0; standing = rest_at_floors f.standing; forgotten = raised f.forgotten (floors_of f.standing) } else f).config ≡ f.config
+    go : (b : Bool) → (if b then emptied f else f).config ≡ f.config
     go true = refl
     go false = refl
 
@@ -116,7 +115,7 @@ pub record IsOne (form : Form) (f : Following) (d : Document) (a : Answer) (g : 
   pub one : all.answers ≡ a ∷ []
   pub text : answers_text form f.config all.answers ≡ answer_text form g.config.version g.config.chains (path_ids g.config.paths) a
 
-pub one_by : (form : Form) (f : Following) (d : Document) (r : Result (Turn Global × Reading) Fault) (a : Answer) (g : Following) → turn_in f d ≡ r → IsAnswerFor f r a g → IsRight f r
+pub one_by : (form : Form) (f : Following) (d : Document) (r : Result (Turn Global × Reading) Refusal) (a : Answer) (g : Following) → turn_in f d ≡ r → IsAnswerFor f r a g → IsRight f r
     → IsOne form f d a g
 one_by form f d (Ok x) (planned number report) g e h right = record {
   all = record {

@@ -6,6 +6,7 @@ pub mod Drivers
 pub mod Documents
 pub mod Tidying
 pub mod Reports
+pub mod Numbers
 pub mod Followers
 pub mod Journals
 pub mod Seen

@@ -7,6 +7,15 @@ use rb_super_turn::TurnReport;
 pub enum Answer {
     /// The report of the turn that it is, by its number from 1.
     Planned { number: u64, report: TurnReport },
-    /// The fault for which it is no turn.
-    Refused(Fault),
+    /// Why it is no turn.
+    Refused(Refusal),
+}
+
+/// Why a document is no turn.
+#[derive(Drop)]
+pub enum Refusal {
+    /// It has a fault; with its number, where it begins with one.
+    Fault { number: Option<u64>, fault: Fault },
+    /// It begins with another number than this one, which is due.
+    OutOfOrder { due: u64 },
 }

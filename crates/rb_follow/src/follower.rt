@@ -11,13 +11,14 @@ ghost use Rattle.rb_script_config.specs.Setups.{setup_view};
 ghost use Rattle.rb_script_config.specs.Paths.{path_ids};
 ghost use Rattle.rb_super_scripts.specs.AsEvents.{IsTurnFor};
 ghost use Rattle.rb_super_turn.specs.Phases.{standing_in};
-ghost use Rattle.rb_follow.specs.Followers.{beginning, turn_after, next_turn, max_turns, most_events, IsAnswerFor, IsAnswer, IsRight, tidied};
+ghost use Rattle.rb_follow.specs.Followers.{beginning, turn_after, read_turn, next_turn, refusing, number_if, max_turns, most_events, IsAnswerFor, IsAnswer, IsRight, room_again, tidied};
 ghost use Rattle.rb_core.specs.Core.{state_in};
 ghost use Rattle.rb_follow.specs.Drivers.{core_of};
 ghost use Rattle.rb_follow.specs.Answers.{answer_view};
 
-use crate::answer::Answer;
+use crate::answer::{Answer, Refusal};
 use crate::driver::Driver;
+use crate::numbers::{number_text, numbered};
 use crate::setup::{path_ids, read_setup_text};
 use crate::tidying::{check_spoken, forgets, raise};
 use crate::turns::read_turn_is_turn;
@@ -27,14 +28,17 @@ use rb_core_model::rules::fee_tables;
 use rb_script_config::Setup;
 use rb_script_read::{NextTurn, Reading, ReadingChange, read_turn_document};
 use rb_script_toml::{FaultName, RunError, fault_at};
-use rb_script_types::{MAX_TURNS, Turn, Version};
+use rb_script_types::{MAX_ENTRIES, MAX_TURNS, Turn, Version};
 use rb_super_turn::Crew;
 use std::alloc::{AllocError, Global};
 use std::sync::{Arc, Wait};
 use std::thread::Threads;
 
-/// The most turns of a follower from version 3 on.
+/// The most turns of a follower in version 3.
 const MOST_TURNS: usize = 10_000;
+
+/// More turns than any run has, for later versions.
+const NO_END: usize = 9_223_372_036_854_775_807;
 
 /// A relayer that is led through turns, each read from a document of its own. A contract sees what it is set
 /// up with, the turns' number, what reading them left to the next, how many events its log can have, how
@@ -66,7 +70,18 @@ fn max_turns(version: Version) -> usize
 {
     match version {
         Version::One | Version::Two => MAX_TURNS,
-        Version::Three | Version::Four => MOST_TURNS,
+        Version::Three => MOST_TURNS,
+        Version::Four => NO_END,
+    }
+}
+
+/// Makes room for as many entries as at first, from version 4 on.
+fn make_room(version: Version, reading: &mut Reading)
+    ensures { reading_view reading.new ≡ room_again version (reading_view reading.old) }
+{
+    match version {
+        Version::One | Version::Two | Version::Three => {}
+        Version::Four => reading.room = MAX_ENTRIES,
     }
 }
 
@@ -217,10 +232,10 @@ impl<G: Gate + Send + Sync + Drop + 'static> Follower<G> {
         self.paths.as_slice()
     }
 
-    /// Reads the turn that a document holds, if there is room for one more, and no event of it speaks of what was
+    /// Reads the turn that a document holds behind its number, if there is room for one more, and no event of it speaks of what was
     /// forgotten.
     fn read(&self, document: &[u8]) -> Result<NextTurn, RunError>
-        ensures read { Gives (next_turn_view (reading_view self.now.reading)) result (next_turn (following self.now) document.now) }
+        ensures read { Gives (next_turn_view (reading_view self.now.reading)) result (read_turn (following self.now) document.now) }
         ensures form { IfOk result (λ n. IsTurnFor (setup_view self.now.setup) n.turn) }
         ensures turns { OnOk result (self.now.turns < max_turns self.now.setup.version) }
         ensures room { IfOk result (λ n. self.now.events + most_events (setup_view self.now.setup) (turn_view n.turn) ≤ max_events) }
@@ -253,7 +268,7 @@ impl<G: Gate + Send + Sync + Drop + 'static> Follower<G> {
             alloc,
             setup,
             paths,
-            reading,
+            mut reading,
             driver,
             turns,
             events: _,
@@ -264,6 +279,7 @@ impl<G: Gate + Send + Sync + Drop + 'static> Follower<G> {
         let (driver, mut floors) = floors_of(rt, driver)?;
         raise(forgotten.as_slice(), &mut floors);
         let driver = driver.begin_anew(rt, alloc, workers, &gate)?;
+        make_room(setup.version, &mut reading);
         Ok(Follower {
             alloc,
             setup,
@@ -326,8 +342,33 @@ impl<G: Gate + Send + Sync + Drop + 'static> Follower<G> {
         Ok((follower, Answer::Planned { number, report }))
     }
 
-    /// Answers a document: by the report of the turn that it holds, or by the fault for which it holds none, and
-    /// then all stays as it was. A fault is the first of: `TooManyObjects` at `-` where there are as many turns as
+    /// Answers a document of which this stands behind its number, if it has one; it is that of the next turn.
+    fn answer_body<R: Threads + Wait + Copy + Send + Sync + 'static>(
+        self,
+        crew: &Crew<R, G>,
+        has_number: bool,
+        body: &[u8],
+    ) -> Result<(Follower<G>, Answer), RunError>
+        ensures answer { IfOk result (λ r. IsAnswerFor (following self) (refusing (number_if has_number (self.turns + 1)) (read_turn (following self) body.now)) (answer_view r.1) (following r.0)) }
+        ensures right { OnOk result (IsRight (following self) (refusing (number_if has_number (self.turns + 1)) (read_turn (following self) body.now))) }
+        ensures memory { IfErr result (λ e. e ≡ RunError.NoMemory) }
+    {
+        match self.read(body) {
+            Ok(next) => self.take(crew, next),
+            Err(RunError::Fault(fault)) => {
+                let number = has_number.then_some(self.turns as u64 + 1);
+                Ok((self, Answer::Refused(Refusal::Fault { number, fault })))
+            }
+            Err(_) => {
+                self.stop(crew.rt());
+                Err(RunError::NoMemory)
+            }
+        }
+    }
+
+    /// Answers a document: by the report of the turn that it holds, or by why it holds none, and then all stays as it
+    /// was. Its first line may be its number, as `turn = 17`: that of the next turn, else it is `OutOfOrder`. A fault
+    /// is the first of: `TooManyObjects` at `-` where there are as many turns as
     /// are allowed, those of a turn's text (`rb_script_read::read_turn_document`), `TooManyEvents` at `-` where the
     /// log has no room for all that the turn may give, and `Forgotten` at the first event that speaks of what was
     /// forgotten. An error is `NoMemory`, where a growth is refused, also to a worker, or as for `Core::begin_anew`;
@@ -341,9 +382,12 @@ impl<G: Gate + Send + Sync + Drop + 'static> Follower<G> {
         ensures right { OnOk result (IsRight (following self) (next_turn (following self) document.now)) }
         ensures memory { IfErr result (λ e. e ≡ RunError.NoMemory) }
     {
-        match self.read(document) {
-            Ok(next) => self.take(crew, next),
-            Err(RunError::Fault(fault)) => Ok((self, Answer::Refused(fault))),
+        let due = self.turns as u64 + 1;
+        match number_text(self.alloc, due) {
+            Ok(text) => match numbered(text.as_str(), document) {
+                Some((has_number, body)) => self.answer_body(crew, has_number, body),
+                None => Ok((self, Answer::Refused(Refusal::OutOfOrder { due }))),
+            },
             Err(_) => {
                 self.stop(crew.rt());
                 Err(RunError::NoMemory)

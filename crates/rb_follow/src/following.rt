@@ -13,16 +13,16 @@ ghost use Rattle.rb_follow.specs.Journals.{StoresAll, accepted, outs};
 ghost use Rattle.rb_follow.specs.Views.{following};
 ghost use Rattle.rb_follow.specs.Headline.{Told, ToldPiece, BeginsTelling, IsFollowError, Follows, BeginsFollowing};
 
-use crate::answer::Answer;
+use crate::answer::{Answer, Refusal};
 use crate::error::FollowError;
 use crate::follower::Follower;
 use crate::gathering::Gathering;
 use crate::journal::Journal;
-use crate::told::{Form, put, put_answer};
+use crate::labels::told;
+use crate::told::{Form, head, put, put_told};
 use rb_base::{Gate, Sink};
 use rb_script_toml::{Fault, FaultName, RunError, fault_at};
 use rb_super_turn::Crew;
-use rb_text_report::first_line;
 use std::alloc::Global;
 use std::io;
 use std::io::Read;
@@ -48,30 +48,32 @@ struct Teller<'a, N> {
 
 impl<N: Watcher> Teller<'_, N> {
     /// Writes an answer of a follower.
+    #[tactic(auto, using(rb_text_report::proofs::Beginnings::beginnings))]
     fn put<G: Gate + Send + Sync + Drop + 'static, W: Sink>(
         &self,
         follower: &Follower<G>,
-        answer: &Answer,
+        answer: Answer,
         writer: &mut W,
     ) -> Result<(), RunError>
         requires { W.is_broken writer.old ≡ false }
-        ensures written { OnOk result (Appends (W.taken writer.old) (W.taken writer.new) (answer_text self.now.form (following follower.now).config.version (following follower.now).config.chains (path_ids (following follower.now).config.paths) (answer_view answer.now))) }
+        ensures written { OnOk result (Appends (W.taken writer.old) (W.taken writer.new) (answer_text self.now.form (following follower.now).config.version (following follower.now).config.chains (path_ids (following follower.now).config.paths) (answer_view answer))) }
         ensures works { OnOk result (W.is_broken writer.new ≡ false) }
-        ensures begun { OnErr result (AppendsBeginning (W.taken writer.old) (W.taken writer.new) (answer_text self.now.form (following follower.now).config.version (following follower.now).config.chains (path_ids (following follower.now).config.paths) (answer_view answer.now))) }
+        ensures begun { OnErr result (AppendsBeginning (W.taken writer.old) (W.taken writer.new) (answer_text self.now.form (following follower.now).config.version (following follower.now).config.chains (path_ids (following follower.now).config.paths) (answer_view answer))) }
         ensures failed { IfErr result (λ e. IsWriteError e (W.is_broken writer.new)) }
     {
+        let told = told(self.alloc, self.form.has_labels(), answer)?;
         let chains = follower.chains();
         let paths = follower.paths();
-        put_answer(
+        put_told(
             self.alloc,
             follower.version(),
             chains,
             paths,
-            answer,
+            &told,
             self.form,
             writer,
         )?;
-        if let Answer::Refused(fault) = answer {
+        if let Answer::Refused(Refusal::Fault { fault, .. }) = &told {
             self.watcher.refused(fault);
         }
         Ok(())
@@ -82,7 +84,7 @@ impl<N: Watcher> Teller<'_, N> {
 fn tell<R, G, W, N>(
     crew: &Crew<R, G>,
     follower: Follower<G>,
-    answer: &Answer,
+    answer: Answer,
     teller: &Teller<'_, N>,
     writer: &mut W,
 ) -> Result<Follower<G>, FollowError>
@@ -93,9 +95,9 @@ where
     N: Watcher,
     requires { W.is_broken writer.old ≡ false }
     ensures same { IfOk result (λ g. g ≡ follower) }
-    ensures written { OnOk result (Appends (W.taken writer.old) (W.taken writer.new) (answer_text teller.now.form (following follower).config.version (following follower).config.chains (path_ids (following follower).config.paths) (answer_view answer.now))) }
+    ensures written { OnOk result (Appends (W.taken writer.old) (W.taken writer.new) (answer_text teller.now.form (following follower).config.version (following follower).config.chains (path_ids (following follower).config.paths) (answer_view answer))) }
     ensures works { OnOk result (W.is_broken writer.new ≡ false) }
-    ensures begun { OnErr result (AppendsBeginning (W.taken writer.old) (W.taken writer.new) (answer_text teller.now.form (following follower).config.version (following follower).config.chains (path_ids (following follower).config.paths) (answer_view answer.now))) }
+    ensures begun { OnErr result (AppendsBeginning (W.taken writer.old) (W.taken writer.new) (answer_text teller.now.form (following follower).config.version (following follower).config.chains (path_ids (following follower).config.paths) (answer_view answer))) }
     ensures failed { IfErr result (λ e. IsFollowError e (W.is_broken writer.new)) }
 {
     match teller.put(&follower, answer, writer) {
@@ -163,7 +165,7 @@ where
     let (follower, answer) = follower.answer(crew, document)?;
     let stored = store(crew, follower, &answer, document, journal)?;
     gathering.clear();
-    tell(crew, stored, &answer, teller, writer)
+    tell(crew, stored, answer, teller, writer)
 }
 
 /// Answers the documents that end in a piece of the input, and gathers what the piece has of the next.
@@ -234,7 +236,13 @@ where
         return Ok(follower);
     }
     match fault_at(teller.alloc, "-", FaultName::NotToml) {
-        RunError::Fault(fault) => tell(crew, follower, &Answer::Refused(fault), teller, writer),
+        RunError::Fault(fault) => {
+            let refusal = Refusal::Fault {
+                number: None,
+                fault,
+            };
+            tell(crew, follower, Answer::Refused(refusal), teller, writer)
+        }
         error => {
             follower.stop(crew.rt());
             Err(FollowError::Run(error))
@@ -304,7 +312,7 @@ where
     Err(FollowError::Input(io::Error::from(io::ErrorKind::FileTooLarge)))
 }
 
-/// The first line of a report, where lines of one are written.
+/// The first line of a report, or the greeting.
 fn put_head<W: Sink, G: Gate + Send + Sync + Drop + 'static>(
     follower: &Follower<G>,
     form: Form,
@@ -316,10 +324,7 @@ fn put_head<W: Sink, G: Gate + Send + Sync + Drop + 'static>(
     ensures begun { OnErr result (AppendsBeginning (W.taken writer.old) (W.taken writer.new) (head_text form (following follower.now).config.version)) }
     ensures failed { IfErr result (λ e. IsWriteError e (W.is_broken writer.new)) }
 {
-    match form {
-        Form::Text => put(writer, first_line(follower.version())),
-        Form::Json => Ok(()),
-    }
+    put(writer, head(form, follower.version()))
 }
 
 /// Writes the first line for a follower, or ends it.
@@ -354,17 +359,17 @@ fn put_end<W: Sink>(form: Form, writer: &mut W) -> Result<(), RunError>
     ensures failed { IfErr result (λ e. IsWriteError e (W.is_broken writer.new)) }
 {
     match form {
-        Form::Text => put(writer, b"end\n"),
-        Form::Json => Ok(()),
+        Form::Text { .. } => put(writer, b"end\n"),
+        Form::Json { .. } => Ok(()),
     }
 }
 
 /// Reads turns from an input as they come, each a document that a line `---` ends, and writes the answer to
-/// each at once: its report and a line `---`, or the fault for which it is no turn and that line; with
-/// `Form::Json` an object on a line. The first line of a report stands before them, and `end` behind them,
-/// where the input has ended. So what was written, without the lines `---` and the faults, is the report of
-/// the script that consists of the setup and the documents that were no fault. From version 3 on each report is
-/// one of what is left after the turns before, which changes none as long as no event speaks of what was
+/// each at once: its report, with the labels of heights or without, and a line `---`, or the fault for which it is
+/// no turn and that line; with `Form::Json` an object on a line, behind a greeting. The first line of a report
+/// stands before lines of one, and `end` behind them, where the input has ended. So what was written with labels,
+/// without the lines `---` and the faults, is the report of the script that consists of the setup and the documents
+/// that were no fault. From version 3 on each report is one of what is left after the turns before, which changes none as long as no event speaks of what was
 /// forgotten or is refused for want of room (`laws::forgetting_changes_no_answer`). The pieces in which the input
 /// comes change nothing, nor do the workers, at most 64 (with 0 the calling thread does all). The journal stores
 /// each of these documents before its answer is written. `Run` is the first fault of the setup, and nothing is

@@ -14,7 +14,7 @@ abbrev pub beginning : List ℕ
 beginning =
     codes "# Made of Hermes' configuration. FROM and UNTIL are to be written. A fee is gas times the price of gas; the numbers of gas are\n"
     ++ codes "# guesses: put in those of your chains. What the answer on a client's state has is left out.\n"
-    ++ codes "# The nodes, as examples/collect reads them: a chain, the address of its node, that of its gateway.\n"
+    ++ codes "# The nodes: a chain, the address of its node, that of its gateway.\n"
 
 -- how it ends: its turn, whose window is to be written
 abbrev pub ending : List ℕ

@@ -19,7 +19,7 @@ use std::alloc::{AllocError, Global};
 const HEAD: &str =
     "# Made of Hermes' configuration. FROM and UNTIL are to be written. A fee is gas times the price of gas; the numbers of gas are
 # guesses: put in those of your chains. What the answer on a client's state has is left out.
-# The nodes, as examples/collect reads them: a chain, the address of its node, that of its gateway.
+# The nodes: a chain, the address of its node, that of its gateway.
 ";
 
 /// How a setup ends.

@@ -14,7 +14,7 @@ use Rattle.rb_import_json.specs.declared.field_path.Key.{Key}
 use Rattle.rb_import_json.specs.declared.field_path.Segment.{Segment}
 use Rattle.rb_import_json.specs.FieldErrors.{◌>>=◌, or_flaw}
 use Rattle.rb_import_json.specs.Fields.{Object, has as has_member}
-use Rattle.rb_import_answers.specs.Headers.{Signed, signed, signed_view}
+use Rattle.rb_import_answers.specs.Headers.{Signed, signed, signed_view, unvoted}
 use Rattle.rb_import_answers.specs.Validators.{Page, page, page_view}
 use Rattle.rb_import_answers.specs.Clients.{client_state, States, states, states_view}
 use Rattle.rb_import_answers.specs.Packets.{Search, found, search_view}
@@ -126,6 +126,17 @@ is_verified _ = false
 -- what an answer tells in the file of a name: verdicts count only in `verdicts.json` (own choice), since a node can answer with their text, too
 abbrev pub told_in : List ℕ → Told → Told
 told_in name t = if is_verified t && not (bytes_eq name verdicts_file) then other Query.Verdicts else t
+
+-- what an answer tells without the votes of a commit, which messages alone need
+abbrev pub without_votes : Told → Told
+without_votes (commit s) = commit (unvoted s)
+without_votes (validators p) = validators p
+without_votes (judging s) = judging s
+without_votes (stored s) = stored s
+without_votes (transactions s) = transactions s
+without_votes (packets p) = packets p
+without_votes (verified v) = verified v
+without_votes (other q) = other q
 
 -- what an answer's bytes tell; of a client's records those of this revision and of later ones
 unfoldable pub told : ℕ → List ℕ → Result Told FieldError

@@ -1,17 +1,21 @@
 -- The answer of CometBFT's `/commit`: the signed header in its result.
-use Rattle.std.specs.Prelude.{ℕ, List, [], Bool, true, Option, Some, None, option_and_then, Result, Ok, ⊤, codes, ◌==◌}
+use Rattle.std.specs.Prelude.{ℕ, List, [], map, Bool, true, Option, Some, None, option_and_then, Result, Ok, ⊤, codes, ◌==◌, nat_le}
 use Rattle.serde_json.specs.Find.{get, as_bool}
 use Rattle.rb_import_answers.specs.declared.commit.BlockIdFlag.TheVariants.{Absent, Commit, Nil}
 use Rattle.rb_import_answers.specs.declared.commit.BlockIdFlag.{BlockIdFlag}
+use Rattle.rb_import_answers.specs.declared.commit.Block.{Block}
+use Rattle.rb_import_answers.specs.declared.commit.Cast.{Cast}
+use Rattle.rb_import_answers.specs.declared.commit.CommitVote.{CommitVote}
+use Rattle.rb_import_answers.specs.declared.commit.CommitVote.TheVariants as kinds
 use Rattle.rb_import_answers.specs.declared.commit.Signature.{Signature}
 use Rattle.rb_import_answers.specs.declared.commit.SignedHeader.{SignedHeader}
 use Rattle.rb_import_json.specs.declared.error.FieldError.{FieldError}
-use Rattle.rb_import_json.specs.declared.error.FieldErrorName.TheVariants.{OtherHeight}
+use Rattle.rb_import_json.specs.declared.error.FieldErrorName.TheVariants.{OtherHeight, WrongType}
 use Rattle.rb_import_json.specs.declared.field_path.Key.{Key}
 use Rattle.rb_import_json.specs.declared.field_path.Segment.{Segment}
 use Rattle.rb_import_json.specs.FieldErrors.{◌>>=◌, must}
-use Rattle.rb_import_json.specs.Fields.{Object, flaw_at, object, items, number_or_zero, count, height, chain, time, hex, bytes, each}
-use Rattle.rb_header.specs.HeaderHash.{BlockId, Header as HeaderFields, header_hash}
+use Rattle.rb_import_json.specs.Fields.{Object, flaw_at, object, inner, items, number_or_zero, count, height, chain, time, hex, bytes, base64, each}
+use Rattle.rb_header.specs.HeaderHash.{BlockId, Header as HeaderFields, header_hash, header_view as fields_view}
 use Rattle.rb_import_answers.specs.Roots.{root_of}
 use Rattle.rb_import_answers.specs.Votes.{flag}
 
@@ -81,29 +85,61 @@ pub record Header : Type 0 where
 abbrev pub header_view : SignedHeader → Header
 header_view h = record { chain = h.chain; height = h.height; time = h.time; root = h.root; set = h.set; next = h.next; hash = h.hash }
 
-unfoldable pub header : Object → Result Header FieldError
-header o = do
-  f ← fields o
-  Ok (record { chain = f.chain; height = f.height; time = f.time; root = root_of f.app_hash; set = f.validators_hash; next = f.next_validators_hash; hash = header_hash f })
+abbrev pub header_of : HeaderFields → Header
+header_of f = record {
+  chain = f.chain;
+  height = f.height;
+  time = f.time;
+  root = root_of f.app_hash;
+  set = f.validators_hash;
+  next = f.next_validators_hash;
+  hash = header_hash f;
+}
 
--- the hash of the block that a commit is for
-unfoldable pub block : Object → Result (List ℕ) FieldError
+abbrev pub block_view : Block → BlockId
+block_view b = record { hash = b.hash; parts_total = b.parts_total; parts_hash = b.parts_hash }
+
+-- the block that a commit is for, whose hashes have 32 bytes
+unfoldable pub block : Object → Result BlockId FieldError
 block commit = do
   id ← object Key.BlockId Segment.BlockId commit
-  hex 32 Key.Hash id
+  hash ← hex 32 Key.Hash id
+  parts ← inner Key.Parts id
+  total ← count Key.Total parts
+  parts_hash ← hex 32 Key.Hash parts
+  Ok (record { hash = hash; parts_total = total; parts_hash = parts_hash })
 
--- whose signature it is: nobody's where it is absent
-abbrev pub signer : BlockIdFlag → Object → Result (Option (List ℕ)) FieldError
-signer Absent o = Ok None
-signer Commit o = hex 20 Key.ValidatorAddress o >>= λ a. Ok (Some a)
-signer Nil o = hex 20 Key.ValidatorAddress o >>= λ a. Ok (Some a)
+-- the round of a commit, 0 where it isn't there; at most 2^31 - 1 (CometBFT, `Commit.Round`)
+unfoldable pub round : Object → Result ℕ FieldError
+round commit = do
+  n ← count Key.Round commit
+  _ ← must (flaw_at commit Key.Round WrongType) (nat_le n 2147483647)
+  Ok n
 
--- an entry of a commit's signatures (CometBFT, `CommitSig`)
-unfoldable pub signature : Object → Result Signature FieldError
-signature o = do
-  vote ← flag o
-  address ← signer vote o
-  Ok (record { flag = vote; address = address })
+-- a vote: whose it is, when it was given, and its signature: 64 bytes, as of ed25519 and of secp256k1
+unfoldable pub cast : Object → Result Cast FieldError
+cast o = do
+  address ← hex 20 Key.ValidatorAddress o
+  moment ← time Key.Timestamp o
+  signature ← base64 64 Key.Signature o
+  Ok (record { address = address; time = moment; signature = signature })
+
+abbrev pub vote_by : BlockIdFlag → Object → Result CommitVote FieldError
+vote_by Absent o = Ok kinds.Absent
+vote_by Commit o = cast o >>= λ c. Ok (kinds.Commit c)
+vote_by Nil o = cast o >>= λ c. Ok (kinds.Nil c)
+
+-- an entry of a commit's signatures (CometBFT, `CommitSig`): one that is absent is nobody's
+unfoldable pub vote : Object → Result CommitVote FieldError
+vote o = do
+  f ← flag o
+  vote_by f o
+
+-- what a script needs of a vote
+abbrev pub signature_of : CommitVote → Signature
+signature_of kinds.Absent = record { flag = Absent; address = None }
+signature_of (kinds.Commit c) = record { flag = Commit; address = Some c.address }
+signature_of (kinds.Nil c) = record { flag = Nil; address = Some c.address }
 
 abbrev pub or_true : Option Bool → Bool
 or_true (Some b) = b
@@ -113,15 +149,42 @@ or_true None = true
 unfoldable pub canonical : Object → Bool
 canonical result = or_true (option_and_then as_bool (get (codes "canonical") result.value))
 
--- a header, the hash of the block that its commit is for, the commit's signatures, in order, and whether the commit is canonical
+-- a header with its commit (CometBFT, `SignedHeader`): what a script needs of the header, its fields, and the address of its proposer, which has
+-- 20 bytes; the commit's round, its block, what a script needs of its votes, and these, in order, and whether it is canonical
 pub record Signed : Type 0 where
   pub header : Header
-  pub block : List ℕ
+  pub fields : HeaderFields
+  pub proposer : List ℕ
+  pub round : ℕ
+  pub block : BlockId
   pub signatures : List Signature
+  pub votes : List CommitVote
   pub is_canonical : Bool
 
 abbrev pub signed_view : SignedHeader → Signed
-signed_view h = record { header = header_view h; block = h.block; signatures = h.signatures.items; is_canonical = h.is_canonical }
+signed_view h = record {
+  header = header_view h;
+  fields = fields_view h.fields;
+  proposer = h.proposer;
+  round = h.round;
+  block = record { hash = h.block; parts_total = h.parts_total; parts_hash = h.parts_hash };
+  signatures = h.signatures.items;
+  votes = h.votes.items;
+  is_canonical = h.is_canonical;
+}
+
+-- a header without the votes, of which what a script needs stays
+abbrev pub unvoted : Signed → Signed
+unvoted s = record {
+  header = s.header;
+  fields = s.fields;
+  proposer = s.proposer;
+  round = s.round;
+  block = s.block;
+  signatures = s.signatures;
+  votes = [];
+  is_canonical = s.is_canonical;
+}
 
 -- the commit has to be of the header's height
 unfoldable pub of_height : ℕ → Object → Result ⊤ FieldError
@@ -135,8 +198,19 @@ signed result = do
   head ← object Key.Header Segment.Header both
   commit ← object Key.Commit Segment.Commit both
   entries ← items Key.Signatures commit
-  signatures ← each signature Segment.Signatures [] entries
+  votes ← each vote Segment.Signatures [] entries
   voted ← block commit
-  told ← header head
-  _ ← of_height told.height commit
-  Ok (record { header = told; block = voted; signatures = signatures; is_canonical = canonical result })
+  turn ← round commit
+  f ← fields head
+  proposer ← hex 20 Key.ProposerAddress head
+  _ ← of_height f.height commit
+  Ok (record {
+    header = header_of f;
+    fields = f;
+    proposer = proposer;
+    round = turn;
+    block = voted;
+    signatures = map signature_of votes;
+    votes = votes;
+    is_canonical = canonical result;
+  })

@@ -3,7 +3,7 @@ ghost use Rattle.std.specs.Prelude.{◌≡◌};
 ghost use Rattle.serde_json.specs.View.{view};
 ghost use Rattle.rb_import_json.specs.FieldErrors.{Gives, or_flaw};
 ghost use Rattle.rb_import_json.specs.Fields.{object_view};
-ghost use Rattle.rb_import_answers.specs.Answers.{answer_view, begins_object, is_error, is_verified, json, known, marks_value, object_count, told, told_in, value_count, whole};
+ghost use Rattle.rb_import_answers.specs.Answers.{answer_view, begins_object, is_error, is_verified, json, known, marks_value, object_count, told, told_in, value_count, whole, without_votes};
 ghost use Rattle.rb_import_answers.specs.Unread.{unread};
 
 use crate::client::{ClientState, ConsensusPage, read_client_state, read_consensus_states};
@@ -61,6 +61,16 @@ impl NodeAnswer {
             NodeAnswer::Other(Query::Verdicts)
         } else {
             self
+        }
+    }
+
+    /// The answer without the votes of a commit, which messages alone need.
+    pub fn without_votes(self, alloc: Global) -> NodeAnswer
+        ensures { answer_view result ≡ without_votes (answer_view self) }
+    {
+        match self {
+            NodeAnswer::Commit(header) => NodeAnswer::Commit(header.without_votes(alloc)),
+            other => other,
         }
     }
 }

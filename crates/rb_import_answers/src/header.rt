@@ -11,7 +11,7 @@ use std::alloc::Global;
 
 /// Reads the fields of a header, of which the hashes but those of its sets, and the proposer's address, may be empty.
 #[tactic(auto, using(rb_import_json::proofs::Steps::steps), unfolding(crate::specs::Headers::fields))]
-pub fn read_header_fields(alloc: Global, head: &Object<'_>) -> Result<Header, AnswerError>
+pub(crate) fn read_header_fields(alloc: Global, head: &Object<'_>) -> Result<Header, AnswerError>
     ensures { Gives (λ h. header_view h) result (fields (object_view head.now)) }
 {
     let chain = head.chain(Key::ChainId)?;

@@ -22,8 +22,7 @@ mod verdicts;
 
 pub use answer::{MAX_ANSWER_BYTES, NodeAnswer, read_answer};
 pub use client::{ClientState, ConsensusPage, ConsensusState, TrustLevel};
-pub use commit::{BlockIdFlag, Signature, SignedHeader};
-pub use header::read_header_fields;
+pub use commit::{BlockIdFlag, Cast, CommitVote, Signature, SignedHeader};
 pub use packets::{PacketEvent, PacketKind, PacketPage, RevisionHeight};
 pub use pending::{Pending, SequencePage};
 pub use query::Query;

@@ -35,7 +35,7 @@ pub enum FieldErrorName {
     BadNumber,
     /// Not the hexadecimal digits of a hash or an address.
     BadHex,
-    /// Not the base64 text of a hash, a key or an attribute.
+    /// Not the base64 text of a hash, a key, a signature or an attribute.
     BadBase64,
     /// Not a time, or one outside the range.
     BadTime,
@@ -136,8 +136,9 @@ impl FieldErrorName {
             FieldErrorName::BadHex => {
                 "hexadecimal digits belong here: 64 of a set's hash, 40 of an address, at most 128 of another hash"
             }
-            FieldErrorName::BadBase64 =>
-                "base64 belongs here: of 32 bytes for a key, of 1 to 64 for a root",
+            FieldErrorName::BadBase64 => {
+                "base64 belongs here: of 32 bytes for a key, of 64 for a signature, of 1 to 64 for a root"
+            }
             FieldErrorName::BadTime => "a time as 2026-11-22T10:00:00Z belongs here, from 1970 on",
             FieldErrorName::BadDuration => "seconds as 806400s belong here, at most 2^63 - 1 ns",
             FieldErrorName::BadIdentifier => "an identifier of 1 to 64 characters belongs here",

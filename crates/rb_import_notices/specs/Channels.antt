@@ -1,22 +1,26 @@
 -- Paths whose answers tell of packets, but of none from the source that the setup names.
-use Rattle.std.specs.Prelude.{◌≡◌, ℕ, List, Vec}
+use Rattle.std.specs.Prelude.{◌&&◌, ℕ, Bool, false, not, is_some, if◌then◌else◌, List, Option, Some, None, String, slice_get, string_bytes}
 use Rattle.std.specs.Global.{Global}
 use Rattle.rb_import_setup.specs.declared.setup.PathSetup.{PathSetup}
 use Rattle.rb_import_setup.specs.declared.setup.Setup.{Setup}
 use Rattle.rb_import_check.specs.declared.saved.Saved.{Saved}
-use Rattle.rb_import_merge.specs.Sources.{AreSources, LacksSource}
+use Rattle.rb_import_check.specs.declared.saved.SavedAnswers.{SavedAnswers}
 use Rattle.rb_import_merge.specs.Seen.{answers_at}
-use Rattle.rb_import_notices.specs.declared.channels.OtherChannel.{OtherChannel}
-use Rattle.rb_import_notices.specs.Notices.{AreNotices}
+use Rattle.rb_import_merge.specs.Sources.{first_source, tell_from}
+use Rattle.rb_import_notices.specs.declared.notice.Notice.{Notice}
+use Rattle.rb_import_notices.specs.declared.notice.Notice.TheVariants.{OtherChannel}
+use Rattle.rb_import_notices.specs.Steps.{◌>>=◌}
 
--- the setup names this path's source, and the answers at its place tell of packets, but of none from it
-abbrev pub IsOfOthers : List (Vec Saved Global) → ℕ → PathSetup → Type 0
-IsOfOthers answers place path = LacksSource path (answers_at answers place)
+abbrev is_other_than : Option (String Global) → List Saved → Bool
+is_other_than (Some named) saved = not (tell_from (string_bytes named) saved) && is_some (first_source saved)
+is_other_than None saved = false
 
--- it is told of this path, with the source that the setup names and another one that packets came from
-abbrev pub SaysChannels : List (Vec Saved Global) → ℕ → PathSetup → OtherChannel → Type 0
-SaysChannels answers place path notice = (notice.path.now ≡ path.config.id) × AreSources path (answers_at answers place) notice.sources
+-- whether the setup names a path's source, and the answers tell of packets, but of none from it
+abbrev pub is_of_others : PathSetup → List Saved → Bool
+is_of_others path saved = is_other_than path.source_channel saved
 
--- a notice for each path of the setup whose packets are of other sources
-unfoldable pub TellChannels : Setup → List (Vec Saved Global) → List OtherChannel → Type 0
-TellChannels setup answers notices = AreNotices (IsOfOthers answers) (SaysChannels answers) setup.paths.items notices
+-- such a path
+abbrev pub other_channel : Setup → SavedAnswers → ℕ → Option Notice
+other_channel setup answers place = do
+  path ← slice_get setup.paths.items place
+  if is_of_others path (answers_at answers.paths.items place) then Some (OtherChannel place) else None

@@ -1,25 +1,28 @@
 -- Paths from whose source packets were sent to several destinations.
-use Rattle.std.specs.Prelude.{◌≡◌, ℕ, List, Vec}
-use Rattle.std.specs.Global.{Global}
+use Rattle.std.specs.Prelude.{◌&&◌, ℕ, Bool, not, is_some, if◌then◌else◌, List, Option, Some, None, slice_get, string_bytes}
+use Rattle.std.specs.List.{list_any}
+use Rattle.std.specs.Str.{bytes_eq}
+use Rattle.rb_import_answers.specs.declared.packets.PacketEvent.{PacketEvent}
 use Rattle.rb_import_setup.specs.declared.setup.PathSetup.{PathSetup}
 use Rattle.rb_import_setup.specs.declared.setup.Setup.{Setup}
-use Rattle.rb_import_check.specs.declared.saved.Saved.{Saved}
-use Rattle.rb_import_merge.specs.Counterparties.{AreCounterparties, HasSeveral}
-use Rattle.rb_import_merge.specs.Packets.{events_of}
+use Rattle.rb_import_check.specs.declared.saved.SavedAnswers.{SavedAnswers}
+use Rattle.rb_import_merge.specs.Packets.{events_of, is_sending}
 use Rattle.rb_import_merge.specs.Seen.{answers_at}
-use Rattle.rb_import_notices.specs.declared.counterparties.SeveralCounterparties.{SeveralCounterparties}
-use Rattle.rb_import_notices.specs.Notices.{AreNotices}
+use Rattle.rb_import_notices.specs.declared.notice.Notice.{Notice}
+use Rattle.rb_import_notices.specs.declared.notice.Notice.TheVariants.{SeveralCounterparties}
+use Rattle.rb_import_notices.specs.Steps.{◌>>=◌}
 
--- the setup names no counterparty of this path, and the answers at its place tell of packets that were sent from its source to two
--- destinations or more
-abbrev pub SentToSeveral : List (Vec Saved Global) → ℕ → PathSetup → Type 0
-SentToSeveral answers place path = HasSeveral path (events_of (answers_at answers place))
+-- whether an event tells that a packet was sent from the path's source to another destination than this one
+abbrev pub is_sent_elsewhere : PathSetup → PacketEvent → PacketEvent → Bool
+is_sent_elsewhere path one other = is_sending path other && not (bytes_eq (string_bytes one.dest) (string_bytes other.dest))
 
--- it is told of this path, with the destination that is taken and another one
-abbrev pub SaysCounterparties : List (Vec Saved Global) → ℕ → PathSetup → SeveralCounterparties → Type 0
-SaysCounterparties answers place path notice =
-    (notice.path.now ≡ path.config.id) × AreCounterparties path (events_of (answers_at answers place)) notice.counterparties
+-- whether the setup names no counterparty of a path, and packets were sent from its source to two destinations or more
+abbrev pub has_several : PathSetup → List PacketEvent → Bool
+has_several path events =
+    not (is_some path.counterparty) && list_any (λ (one : PacketEvent). is_sending path one && list_any (is_sent_elsewhere path one) events) events
 
--- a notice for each path of the setup from whose source packets were sent to several destinations
-unfoldable pub TellCounterparties : Setup → List (Vec Saved Global) → List SeveralCounterparties → Type 0
-TellCounterparties setup answers notices = AreNotices (SentToSeveral answers) (SaysCounterparties answers) setup.paths.items notices
+-- such a path
+abbrev pub sent_to_several : Setup → SavedAnswers → ℕ → Option Notice
+sent_to_several setup answers place = do
+  path ← slice_get setup.paths.items place
+  if has_several path (events_of (answers_at answers.paths.items place)) then Some (SeveralCounterparties place) else None

@@ -5,15 +5,13 @@ pub mod Excess
 pub mod Headers
 pub mod Latest
 pub mod Missing
-pub mod Notices
 pub mod Packets
 pub mod Pages
+pub mod Passed
 pub mod Stale
 pub mod Starts
+pub mod Steps
 pub mod Unsearched
 pub mod Unusable
 pub mod Verified
-pub mod Passed
 pub mod Whole
-pub mod Lines
-pub mod NoticeTexts

@@ -1,17 +1,16 @@
 -- Pages of a client's consensus states that are lost. `want` names the files of the pages consensus_states-1.json, consensus_states-2.json, ..: each by
 -- one more than the number of the pages that are there when it is asked for.
-use Rattle.std.specs.Prelude.{◌≡◌, ◌<◌, ◌==◌, ◌&&◌, ◌++◌, ℕ, Bool, true, false, not, List, [], ◌∷◌, Vec, Option, Some, None, IsSomeAnd, codes, count_by, decimal, eqb, filter_map, if◌then◌else◌, nat_lt, slice_get, string_bytes}
-use Rattle.std.specs.Global.{Global}
-use Rattle.std.specs.List.{ends_with, list_any}
+use Rattle.std.specs.Prelude.{◌-◌, ◌==◌, ◌&&◌, ℕ, Bool, true, false, not, List, [], ◌∷◌, Option, Some, None, codes, count_by, eqb, filter_map, find, if◌then◌else◌, max, nat_lt, option_map, string_bytes}
+use Rattle.std.specs.List.{ends_with, list_any, range_with_len, reduce}
 use Rattle.std.specs.Str.{bytes_eq}
 use Rattle.rb_import_json.specs.Values.{number_of}
 use Rattle.rb_import_answers.specs.declared.answer.NodeAnswer.{NodeAnswer}
 use Rattle.rb_import_answers.specs.declared.answer.NodeAnswer.TheVariants as answers
-use Rattle.rb_import_setup.specs.declared.setup.ClientSetup.{ClientSetup}
-use Rattle.rb_import_setup.specs.declared.setup.Setup.{Setup}
 use Rattle.rb_import_check.specs.declared.saved.Saved.{Saved}
-use Rattle.rb_import_notices.specs.declared.pages.MissingStates.{MissingStates}
-use Rattle.rb_import_notices.specs.Notices.{AreNotices}
+use Rattle.rb_import_check.specs.declared.saved.SavedAnswers.{SavedAnswers}
+use Rattle.rb_import_merge.specs.Seen.{answers_at}
+use Rattle.rb_import_notices.specs.declared.notice.Notice.{Notice}
+use Rattle.rb_import_notices.specs.declared.notice.Notice.TheVariants.{MissingStates}
 
 abbrev pub after_byte : ℕ → ℕ → List ℕ → Option (List ℕ × List ℕ) → Option (List ℕ × List ℕ)
 after_byte mark b rest (Some p) = Some (b ∷ p.0, p.1)
@@ -83,23 +82,18 @@ is_later_there pages count page = list_any (λ later. nat_lt page later && nat_l
 unfoldable pub is_lacking : List ℕ → ℕ → ℕ → Bool
 is_lacking pages count page = not (is_there pages page) && is_later_there pages count page
 
--- a page isn't among the answers, and a later one is, whose number is above that of the pages that are there
-abbrev pub IsLacking : List Saved → ℕ → Type 0
-IsLacking saved page = (0 < page) × (is_lacking (pages_of saved) (count_pages saved) page ≡ true)
+abbrev pub pages_below : Option ℕ → List ℕ
+pages_below (Some highest) = range_with_len 1 (highest - 1)
+pages_below None = []
 
--- it is the first such page
-unfoldable pub IsLost : List Saved → ℕ → Type 0
-IsLost saved page = IsLacking saved page × ((other : ℕ) → other < page → ¬ IsLacking saved other)
+-- the first page that is lacking; it is below the highest one
+abbrev pub first_lacking : List ℕ → ℕ → Option ℕ
+first_lacking pages count = find (is_lacking pages count) (pages_below (reduce max pages))
 
--- a page of the client at a place is lost
-abbrev pub LacksPage : List (Vec Saved Global) → ℕ → Type 0
-LacksPage answers place = IsSomeAnd (slice_get answers place) (λ (saved : Vec Saved Global). (page : ℕ) × IsLost saved.items page)
+-- the first page that isn't among the answers, while a later one is, whose number is above that of the pages that are there
+abbrev pub lost_page : List Saved → Option ℕ
+lost_page saved = first_lacking (pages_of saved) (count_pages saved)
 
--- it is told of this client, and of the first page that is lost
-abbrev pub SaysPage : List (Vec Saved Global) → ℕ → ClientSetup → MissingStates → Type 0
-SaysPage answers place c notice =
-    (notice.client.now ≡ c.id) × IsSomeAnd (slice_get answers place) (λ (saved : Vec Saved Global). IsLost saved.items notice.page)
-
--- a notice for each client of the setup of which a page is lost
-unfoldable pub TellPages : Setup → List (Vec Saved Global) → List MissingStates → Type 0
-TellPages setup answers notices = AreNotices (λ place c. LacksPage answers place) (SaysPage answers) setup.clients.items notices
+-- a client of which a page is lost, and the first one
+abbrev pub missing_states : SavedAnswers → ℕ → Option Notice
+missing_states answers client = option_map (MissingStates client) (lost_page (answers_at answers.clients.items client))

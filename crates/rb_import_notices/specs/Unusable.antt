@@ -1,37 +1,21 @@
 -- What can't be used in a window (ICS 7, update validity; CometBFT light client).
-use Rattle.std.specs.Prelude.{◌≡◌, ℕ, ◌+◌, ◌-◌, ◌<◌, ◌≤◌, nat_le, Bool, true, false, List, [], Vec, Option, Some, None, All, Any, IsSomeAnd, count_by, length, slice_get}
-use Rattle.std.specs.Global.{Global}
+use Rattle.std.specs.Prelude.{ℕ, ◌+◌, ◌-◌, ◌==◌, ◌&&◌, nat_le, Bool, not, if◌then◌else◌, List, [], Option, Some, None, count_by, filter, length, map, min, option_map, slice_get}
+use Rattle.std.specs.List.{list_all, reduce}
 use Rattle.rb_base.specs.Window.{Span}
 use Rattle.rb_script_types.specs.declared.script.Asked.{Asked}
 use Rattle.rb_script_types.specs.declared.goal.Goal.{Goal}
 use Rattle.rb_script_types.specs.declared.goal.Goal.TheVariants.{Exactly, AtLeast}
-use Rattle.rb_script_types.specs.Goal.{Wants}
 use Rattle.rb_import_setup.specs.declared.setup.ClientSetup.{ClientSetup}
 use Rattle.rb_import_setup.specs.declared.setup.Setup.{Setup}
 use Rattle.rb_import_setup.specs.declared.setup.TurnSetup.{TurnSetup}
 use Rattle.rb_import_setup.specs.Windows.{window_of}
 use Rattle.rb_import_check.specs.declared.chain.Commit.{Commit}
 use Rattle.rb_import_check.specs.declared.chain.SeenChain.{SeenChain}
-use Rattle.rb_import_check.specs.declared.client.SeenClient.{SeenClient}
 use Rattle.rb_import_check.specs.declared.client.Stored.{Stored}
 use Rattle.rb_import_merge.specs.declared.seen.Seen.{Seen}
-use Rattle.rb_import_notices.specs.declared.unusable.FutureHeaders.{FutureHeaders}
-use Rattle.rb_import_notices.specs.declared.unusable.NothingTrusted.{NothingTrusted}
-use Rattle.rb_import_notices.specs.declared.unusable.UnseenGoal.{UnseenGoal}
-use Rattle.rb_import_notices.specs.Notices.{AreNotices}
-
--- the trusting period is over at the window's last moment
-abbrev pub IsExpired : ℕ → Span → Stored → Type 0
-IsExpired period w s = s.state.now.time + period ≤ w.until
-
--- the header is ahead of the window's first moment by the clock drift or more
-abbrev pub IsFromFuture : ℕ → Span → Commit → Type 0
-IsFromFuture drift w c = w.from + drift ≤ c.header.now.time
-
--- neither a header nor a record is of a height that the goal wants
-abbrev pub IsUnseen : Goal → List Commit → List Stored → Type 0
-IsUnseen goal commits records =
-    All (λ (c : Commit). ¬ Wants goal c.header.now.height) commits × All (λ (s : Stored). ¬ Wants goal s.state.now.height) records
+use Rattle.rb_import_notices.specs.declared.notice.Notice.{Notice}
+use Rattle.rb_import_notices.specs.declared.notice.Notice.TheVariants.{FutureHeaders, NothingTrusted, UnseenGoal}
+use Rattle.rb_import_notices.specs.Steps.{◌>>=◌}
 
 -- ---- the last turn
 
@@ -49,79 +33,71 @@ last_goals setup = goals_in (last_turn setup)
 
 -- ---- clients whose records have expired
 
--- all written records of the client at a place have expired at the end of its window in the last turn
-abbrev pub HaveExpired : Setup → Seen → ℕ → Type 0
-HaveExpired setup seen place =
-    IsSomeAnd (last_turn setup) (λ (turn : TurnSetup).
-    IsSomeAnd (slice_get seen.clients.items place) (λ (client : SeenClient).
-    IsSomeAnd (slice_get seen.records.items place) (λ (records : Vec Stored Global).
-    All (IsExpired client.period (window_of setup place turn.window)) records.items)))
+-- whether the trusting period is over at the window's last moment
+abbrev pub has_expired : ℕ → Span → Stored → Bool
+has_expired period w s = nat_le (s.state.now.time + period) w.until
 
--- it is told of this client, and of how many written records it has
-abbrev pub SaysUntrusted : Seen → ℕ → ClientSetup → NothingTrusted → Type 0
-SaysUntrusted seen place c notice =
-    (notice.client.now ≡ c.id) × IsSomeAnd (slice_get seen.records.items place) (λ (records : Vec Stored Global). notice.expired ≡ length records.items)
+abbrev pub have_expired : ℕ → Span → List Stored → Bool
+have_expired period w records = list_all (has_expired period w) records
 
--- a notice for each client of the setup whose written records have all expired
-unfoldable pub TellUntrusted : Setup → Seen → List NothingTrusted → Type 0
-TellUntrusted setup seen notices = AreNotices (λ place c. HaveExpired setup seen place) (SaysUntrusted seen) setup.clients.items notices
+-- a client whose written records have all expired at the end of its window in the last turn, and how many these are
+abbrev pub nothing_trusted : Setup → Seen → ℕ → Option Notice
+nothing_trusted setup seen client = do
+  turn ← last_turn setup
+  judging ← slice_get seen.clients.items client
+  records ← slice_get seen.records.items client
+  if have_expired judging.period (window_of setup client turn.window) records.items then Some (NothingTrusted client (length records.items)) else None
 
 -- ---- clients with headers from the future
 
--- this holds of the clock drift of the client at a place, of its window in the last turn, and of the headers of the chain that the client tracks
-abbrev pub HoldsOfHeaders : Setup → Seen → ℕ → ClientSetup → (ℕ → Span → List Commit → Type 0) → Type 0
-HoldsOfHeaders setup seen place c Holds =
-    IsSomeAnd (last_turn setup) (λ (turn : TurnSetup).
-    IsSomeAnd (slice_get seen.clients.items place) (λ (client : SeenClient).
-    IsSomeAnd (slice_get seen.chains.items c.tracks) (λ (chain : SeenChain). Holds client.drift (window_of setup place turn.window) chain.commits.items)))
+-- whether a header is ahead of the window's first moment by the clock drift or more
+abbrev pub is_from_future : ℕ → Span → Commit → Bool
+is_from_future drift w c = nat_le (w.from + drift) c.header.now.time
 
--- so many headers are from the future, and this is the lowest height of one
-abbrev pub AreAhead : ℕ → ℕ → ℕ → Span → List Commit → Type 0
-AreAhead count lowest drift w commits =
-    (count ≡ count_by (λ (c : Commit). nat_le (w.from + drift) c.header.now.time) commits)
-    × Any (λ (c : Commit). IsFromFuture drift w c × (c.header.now.height ≡ lowest)) commits
-    × All (λ (c : Commit). IsFromFuture drift w c → lowest ≤ c.header.now.height) commits
+-- how many headers are, and the lowest height of one
+abbrev pub count_ahead : ℕ → Span → List Commit → ℕ
+count_ahead drift w commits = count_by (is_from_future drift w) commits
 
--- the client at a place tracks a chain of the setup with headers from the future
-abbrev pub HasFuture : Setup → Seen → ℕ → ClientSetup → Type 0
-HasFuture setup seen place c =
-    (c.tracks < length setup.chains.items) × HoldsOfHeaders setup seen place c (λ drift w commits. Any (IsFromFuture drift w) commits)
+abbrev pub lowest_ahead : ℕ → Span → List Commit → Option ℕ
+lowest_ahead drift w commits = reduce min (map (λ (c : Commit). c.header.now.height) (filter (is_from_future drift w) commits))
 
--- it is told of this client, of the chain that it tracks, and of the headers that are from the future
-abbrev pub SaysFuture : Setup → Seen → ℕ → ClientSetup → FutureHeaders → Type 0
-SaysFuture setup seen place c notice =
-    (notice.client.now ≡ c.id) × (slice_get setup.chains.items c.tracks ≡ Some notice.chain.now) × HoldsOfHeaders setup seen place c (AreAhead notice.count notice.lowest)
-
--- a notice for each client of the setup with headers from the future
-unfoldable pub TellFuture : Setup → Seen → List FutureHeaders → Type 0
-TellFuture setup seen notices = AreNotices (HasFuture setup seen) (SaysFuture setup seen) setup.clients.items notices
+-- a client with headers from the future, in its window in the last turn, of the chain that it tracks: how many, and the lowest height of these
+abbrev pub future_headers : Setup → Seen → ℕ → Option Notice
+future_headers setup seen client = do
+  turn ← last_turn setup
+  own ← slice_get setup.clients.items client
+  judging ← slice_get seen.clients.items client
+  chain ← slice_get seen.chains.items own.tracks
+  lowest ← lowest_ahead judging.drift (window_of setup client turn.window) chain.commits.items
+  Some (FutureHeaders client (count_ahead judging.drift (window_of setup client turn.window) chain.commits.items) lowest)
 
 -- ---- goals that nothing meets
 
--- a goal's client tracks a chain of the setup that has headers, and neither one of these nor a written record of the client is of a height that the goal wants
-abbrev pub MissesGoal : Setup → Seen → Asked → Type 0
-MissesGoal setup seen asked =
-    IsSomeAnd (slice_get setup.clients.items asked.client) (λ (c : ClientSetup).
-    (c.tracks < length setup.chains.items)
-    × IsSomeAnd (slice_get seen.chains.items c.tracks) (λ (chain : SeenChain).
-    IsSomeAnd (slice_get seen.records.items asked.client) (λ (records : Vec Stored Global).
-    (0 < length chain.commits.items) × IsUnseen asked.goal chain.commits.items records.items)))
+-- whether a goal wants a height
+abbrev pub wants : Goal → ℕ → Bool
+wants (Exactly wanted) height = height == wanted
+wants (AtLeast least) height = nat_le least height
 
-abbrev pub IsGoal : Goal → ℕ → Bool → Type 0
-IsGoal (Exactly wanted) height is_exact = (height ≡ wanted) × (is_exact ≡ true)
-IsGoal (AtLeast least) height is_exact = (height ≡ least) × (is_exact ≡ false)
+-- whether neither a header nor a record is of a height that the goal wants
+abbrev pub no_header_meets : Goal → List Commit → Bool
+no_header_meets goal commits = list_all (λ (c : Commit). not (wants goal c.header.now.height)) commits
 
--- it is told of the goal's client, of the chain that this tracks, and of the goal
-abbrev pub SaysGoal : Setup → Asked → UnseenGoal → Type 0
-SaysGoal setup asked notice =
-    IsSomeAnd (slice_get setup.clients.items asked.client) (λ (c : ClientSetup).
-    (notice.client.now ≡ c.id) × (slice_get setup.chains.items c.tracks ≡ Some notice.chain.now))
-    × IsGoal asked.goal notice.height notice.is_exact
+abbrev pub no_record_meets : Goal → List Stored → Bool
+no_record_meets goal records = list_all (λ (s : Stored). not (wants goal s.state.now.height)) records
 
--- a notice for each of these goals that nothing meets
-unfoldable pub TellThese : Setup → Seen → List Asked → List UnseenGoal → Type 0
-TellThese setup seen goals notices = AreNotices (λ place asked. MissesGoal setup seen asked) (λ place asked. SaysGoal setup asked) goals notices
+abbrev pub is_unseen : Goal → List Commit → List Stored → Bool
+is_unseen goal commits records = no_header_meets goal commits && no_record_meets goal records
 
--- a notice for each goal of the last turn that nothing meets
-abbrev pub TellGoals : Setup → Seen → List UnseenGoal → Type 0
-TellGoals setup seen notices = TellThese setup seen (last_goals setup) notices
+-- whether there are headers, and that
+abbrev pub is_missed : Goal → List Commit → List Stored → Bool
+is_missed goal commits records = not (length commits == 0) && is_unseen goal commits records
+
+-- a goal of the last turn whose client tracks a chain that has headers, and neither one of these nor a written record of the client is of a height that
+-- the goal wants
+abbrev pub unseen_goal : Setup → Seen → ℕ → Option Notice
+unseen_goal setup seen place = do
+  asked ← slice_get (last_goals setup) place
+  client ← slice_get setup.clients.items asked.client
+  chain ← slice_get seen.chains.items client.tracks
+  records ← slice_get seen.records.items asked.client
+  if is_missed asked.goal chain.commits.items records.items then Some (UnseenGoal place) else None

@@ -1,69 +1,101 @@
 -- All notices of a setup and of the answers that a script is made of.
+use Rattle.std.specs.Prelude.{◌≡◌, ℕ, List, [], ◌∷◌, Option, Some, None, length, option_to_list}
+use Rattle.std.specs.List.{flat_map, range_with_len}
 use Rattle.rb_import_setup.specs.declared.setup.Setup.{Setup}
 use Rattle.rb_import_check.specs.declared.saved.SavedAnswers.{SavedAnswers}
 use Rattle.rb_import_merge.specs.declared.seen.Seen.{Seen}
+use Rattle.rb_import_notices.specs.declared.notice.Kind.{Kind}
+use Rattle.rb_import_notices.specs.declared.notice.Notice.{Notice}
 use Rattle.rb_import_notices.specs.declared.notice.Notices.{Notices}
-use Rattle.rb_import_notices.specs.Canonical.{TellUncanonical}
-use Rattle.rb_import_notices.specs.Channels.{TellChannels}
-use Rattle.rb_import_notices.specs.Counterparties.{TellCounterparties}
-use Rattle.rb_import_notices.specs.Excess.{TellExcessHeaders, TellExcessPackets, TellExcessRecords, TellExcessSets}
-use Rattle.rb_import_notices.specs.Headers.{TellSets, TellUnsigned}
-use Rattle.rb_import_notices.specs.Latest.{TellLatest}
-use Rattle.rb_import_notices.specs.Missing.{TellHeaders, TellNextSets}
-use Rattle.rb_import_notices.specs.Packets.{TellLeftOut, TellMore}
-use Rattle.rb_import_notices.specs.Pages.{TellPages}
-use Rattle.rb_import_notices.specs.Passed.{TellOthersOfChains, TellOthersOfClients, TellOthersOfPaths}
-use Rattle.rb_import_notices.specs.Stale.{TellFresh}
-use Rattle.rb_import_notices.specs.Unsearched.{TellSearches}
-use Rattle.rb_import_notices.specs.Unusable.{TellFuture, TellGoals, TellUntrusted}
-use Rattle.rb_import_notices.specs.Verified.{TellUnchecked, TellUnverified}
+use Rattle.rb_import_notices.specs.declared.notice.Subject.{Subject}
+use Rattle.rb_import_notices.specs.Canonical.{not_canonical}
+use Rattle.rb_import_notices.specs.Channels.{other_channel}
+use Rattle.rb_import_notices.specs.Counterparties.{sent_to_several}
+use Rattle.rb_import_notices.specs.Excess.{too_many_headers, too_many_packets, too_many_records, too_many_sets}
+use Rattle.rb_import_notices.specs.Headers.{missing_headers, missing_sets, unsigned_headers}
+use Rattle.rb_import_notices.specs.Latest.{missing_latest}
+use Rattle.rb_import_notices.specs.Missing.{missing_next_set}
+use Rattle.rb_import_notices.specs.Packets.{more_packets, packets_left_out}
+use Rattle.rb_import_notices.specs.Pages.{missing_states}
+use Rattle.rb_import_notices.specs.Passed.{others_of_chain, others_of_client, others_of_path}
+use Rattle.rb_import_notices.specs.Stale.{nothing_fresh}
+use Rattle.rb_import_notices.specs.Unsearched.{missing_searches}
+use Rattle.rb_import_notices.specs.Unusable.{future_headers, last_goals, nothing_trusted, unseen_goal}
+use Rattle.rb_import_notices.specs.Verified.{not_verified, unverified_commits}
 
--- they tell what is left out by itself: headers without sets, headers that too few validators signed, packets on which answers are lacking, the first 100
--- of a path one by one
-abbrev pub TellLeft : Setup → Seen → Notices → Type 0
-TellLeft setup seen n =
-    TellSets setup seen n.sets.items × TellUnsigned setup seen n.unsigned.items × TellLeftOut setup seen n.packets.items
-    × TellMore setup seen n.more_packets.items
+-- how many chains, clients or paths there are, or goals of the last turn
+abbrev pub places : Setup → Subject → ℕ
+places setup Subject.Chain = length setup.chains.items
+places setup Subject.Client = length setup.clients.items
+places setup Subject.Path = length setup.paths.items
+places setup Subject.Goal = length (last_goals setup)
 
--- they tell what isn't among the answers: headers, next sets, records of latest heights, pages of records, searches
-abbrev pub TellMissing : Setup → SavedAnswers → Seen → Notices → Type 0
-TellMissing setup answers seen n =
-    TellHeaders setup seen n.headers.items × TellNextSets setup seen n.next_sets.items × TellLatest setup seen n.latest.items
-    × TellPages setup answers.clients.items n.states.items × TellSearches setup answers.paths.items n.searches.items
+-- the notices of a kind on the subject at a place that are due: one or none, and of the packets of a path that are left out one for each of the first
+abbrev pub notices_at : Setup → SavedAnswers → Seen → Kind → ℕ → List Notice
+notices_at setup answers seen Kind.MissingHeaders chain = option_to_list (missing_headers setup seen chain)
+notices_at setup answers seen Kind.MissingSets chain = option_to_list (missing_sets seen chain)
+notices_at setup answers seen Kind.UnsignedHeaders chain = option_to_list (unsigned_headers seen chain)
+notices_at setup answers seen Kind.TooManyHeaders chain = option_to_list (too_many_headers seen chain)
+notices_at setup answers seen Kind.TooManySets chain = option_to_list (too_many_sets seen chain)
+notices_at setup answers seen Kind.TooManyRecords client = option_to_list (too_many_records seen client)
+notices_at setup answers seen Kind.TooManyPackets path = option_to_list (too_many_packets seen path)
+notices_at setup answers seen Kind.PacketLeftOut path = packets_left_out answers seen path
+notices_at setup answers seen Kind.MorePackets path = option_to_list (more_packets seen path)
+notices_at setup answers seen Kind.NothingTrusted client = option_to_list (nothing_trusted setup seen client)
+notices_at setup answers seen Kind.FutureHeaders client = option_to_list (future_headers setup seen client)
+notices_at setup answers seen Kind.UnseenGoal goal = option_to_list (unseen_goal setup seen goal)
+notices_at setup answers seen Kind.NothingFresh client = option_to_list (nothing_fresh setup seen client)
+notices_at setup answers seen Kind.MissingNextSet client = option_to_list (missing_next_set setup seen client)
+notices_at setup answers seen Kind.MissingLatest client = option_to_list (missing_latest seen client)
+notices_at setup answers seen Kind.MissingStates client = option_to_list (missing_states answers client)
+notices_at setup answers seen Kind.MissingSearches path = option_to_list (missing_searches setup answers path)
+notices_at setup answers seen Kind.SeveralCounterparties path = option_to_list (sent_to_several setup answers path)
+notices_at setup answers seen Kind.OtherChannel path = option_to_list (other_channel setup answers path)
+notices_at setup answers seen Kind.NotCanonical chain = option_to_list (not_canonical seen chain)
+notices_at setup answers seen Kind.NotVerified chain = option_to_list (not_verified answers seen chain)
+notices_at setup answers seen Kind.UnverifiedCommits chain = option_to_list (unverified_commits answers seen chain)
+notices_at setup answers seen Kind.OthersOfChain chain = option_to_list (others_of_chain answers chain)
+notices_at setup answers seen Kind.OthersOfClient client = option_to_list (others_of_client answers client)
+notices_at setup answers seen Kind.OthersOfPath path = option_to_list (others_of_path answers path)
 
--- they tell what there is no room for: headers, sets, records, packets
-abbrev pub TellExcess : Setup → Seen → Notices → Type 0
-TellExcess setup seen n =
-    TellExcessHeaders setup seen n.too_many_headers.items × TellExcessSets setup seen n.too_many_sets.items × TellExcessRecords setup seen n.too_many.items
-    × TellExcessPackets setup seen n.too_many_packets.items
+-- those of a kind, in the order of the setup
+abbrev pub notices_of_kind : Setup → SavedAnswers → Seen → Subject × Kind → List Notice
+notices_of_kind setup answers seen k = flat_map (notices_at setup answers seen k.1) (range_with_len 0 (places setup k.0))
 
--- they tell what can't be used in the windows of the last turn: expired records, headers from the future, goals that nothing meets, refreshes for which nothing is young enough
-abbrev pub TellUnusable : Setup → Seen → Notices → Type 0
-TellUnusable setup seen n =
-    TellUntrusted setup seen n.untrusted.items × TellFuture setup seen n.future.items × TellGoals setup seen n.goals.items × TellFresh setup seen n.stale.items
+-- those of these kinds, one kind behind the other
+abbrev pub notices_of_kinds : Setup → SavedAnswers → Seen → List (Subject × Kind) → List Notice
+notices_of_kinds setup answers seen kinds = flat_map (notices_of_kind setup answers seen) kinds
 
--- they tell of paths that may not be those that are meant: of several destinations, and of other sources
-abbrev pub TellUnsure : Setup → SavedAnswers → Notices → Type 0
-TellUnsure setup answers n =
-    TellCounterparties setup answers.paths.items n.counterparties.items × TellChannels setup answers.paths.items n.channels.items
+-- all kinds, in the order in which they are told, and what each is about
+abbrev pub kinds : List (Subject × Kind)
+kinds =
+    (Subject.Chain, Kind.MissingHeaders)
+    ∷ (Subject.Chain, Kind.MissingSets)
+    ∷ (Subject.Chain, Kind.UnsignedHeaders)
+    ∷ (Subject.Chain, Kind.TooManyHeaders)
+    ∷ (Subject.Chain, Kind.TooManySets)
+    ∷ (Subject.Client, Kind.TooManyRecords)
+    ∷ (Subject.Path, Kind.TooManyPackets)
+    ∷ (Subject.Path, Kind.PacketLeftOut)
+    ∷ (Subject.Path, Kind.MorePackets)
+    ∷ (Subject.Client, Kind.NothingTrusted)
+    ∷ (Subject.Client, Kind.FutureHeaders)
+    ∷ (Subject.Goal, Kind.UnseenGoal)
+    ∷ (Subject.Client, Kind.NothingFresh)
+    ∷ (Subject.Client, Kind.MissingNextSet)
+    ∷ (Subject.Client, Kind.MissingLatest)
+    ∷ (Subject.Client, Kind.MissingStates)
+    ∷ (Subject.Path, Kind.MissingSearches)
+    ∷ (Subject.Path, Kind.SeveralCounterparties)
+    ∷ (Subject.Path, Kind.OtherChannel)
+    ∷ (Subject.Chain, Kind.NotCanonical)
+    ∷ (Subject.Chain, Kind.NotVerified)
+    ∷ (Subject.Chain, Kind.UnverifiedCommits)
+    ∷ (Subject.Chain, Kind.OthersOfChain)
+    ∷ (Subject.Client, Kind.OthersOfClient)
+    ∷ (Subject.Path, Kind.OthersOfPath)
+    ∷ []
 
--- they tell of answers that aren't needed
-abbrev pub TellPassed : Setup → SavedAnswers → Notices → Type 0
-TellPassed setup answers n =
-    TellOthersOfChains setup answers.chains.items n.others_of_chains.items × TellOthersOfClients setup answers.clients.items n.others_of_clients.items
-    × TellOthersOfPaths setup answers.paths.items n.others_of_paths.items
-
--- they tell of commits without a verdict, where their chain has some, and of chains that have none
-abbrev pub TellNotVerified : Setup → SavedAnswers → Seen → Notices → Type 0
-TellNotVerified setup answers seen n =
-    TellUnverified setup answers.chains.items seen n.not_verified.items × TellUnchecked setup answers.chains.items seen n.unverified.items
-
--- they tell of commits that aren't canonical yet
-abbrev pub TellNotCanonical : Setup → Seen → Notices → Type 0
-TellNotCanonical setup seen n = TellUncanonical setup seen n.not_canonical.items
-
--- these are all notices of a setup, its answers and what was seen in them
+-- these are all notices of a setup, its answers and what was seen in them: each that is due, once, in order
 abbrev pub AreNoticesOf : Setup → SavedAnswers → Seen → Notices → Type 0
-AreNoticesOf setup answers seen n =
-    TellLeft setup seen n × TellMissing setup answers seen n × TellExcess setup seen n × TellUnusable setup seen n × TellUnsure setup answers n
-    × TellPassed setup answers n × TellNotVerified setup answers seen n × TellNotCanonical setup seen n
+AreNoticesOf setup answers seen n = n.list.items ≡ notices_of_kinds setup answers seen kinds

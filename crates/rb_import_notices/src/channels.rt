@@ -1,68 +1,32 @@
 //! Notices of paths with another source than those that packets came from.
-ghost use Rattle.std.specs.Prelude.{IfOk, MatchOption};
-ghost use Rattle.rb_import_notices.specs.Channels.{IsOfOthers, SaysChannels, TellChannels};
+ghost use Rattle.std.specs.Prelude.{◌≡◌};
+ghost use Rattle.rb_import_notices.specs.Channels.{is_of_others, other_channel};
 
-use crate::shown::Shown;
-use rb_import_check::SavedAnswers;
-use rb_import_merge::{OtherSource, answers_at, other_source};
+use crate::notice::Notice;
+use rb_import_check::{Saved, SavedAnswers};
+use rb_import_merge::{answers_at, other_source};
 use rb_import_setup::{PathSetup, Setup};
-use std::alloc::{AllocError, Global};
-use std::fmt;
-
-/// A path whose answers tell of packets, but of none from the source that the setup names: that one, and another one.
-#[derive(Clone, Copy)]
-pub struct OtherChannel<'a> {
-    pub path: &'a str,
-    pub sources: OtherSource<'a>,
-}
-
-impl fmt::Display for OtherChannel<'_> {
-    ghost use Rattle.std.specs.Prelude.{Some};
-    ghost use Rattle.rb_import_notices.specs.NoticeTexts.{other_channel_text};
-
-    ghost output = { λ n. Some (other_channel_text n) };
-
-    fn fmt<W: fmt::Write>(&self, f: &mut fmt::Formatter<W>) -> fmt::Result {
-        let path = self.path;
-        let named = Shown {
-            text: self.sources.named,
-        };
-        let told = Shown {
-            text: self.sources.told,
-        };
-        write!(
-            f,
-            "notice OtherChannel at {path}: the answers tell of packets of {told}, none of {named}; see the path's port and channel"
-        )
-    }
-}
-
-/// The paths whose answers tell of packets, but of none from the source that the setup names.
-pub fn of_other_channels<'a>(
-    alloc: Global,
-    setup: &'a Setup,
-    answers: &'a SavedAnswers,
-) -> Result<Vec<OtherChannel<'a>>, AllocError>
-    ensures { IfOk result (λ found. TellChannels setup.entry.now answers.entry.now.paths.items found.items) }
-{
-    let mut found = Vec::new(alloc);
-    for (place, path) in setup.paths.iter().enumerate() {
-        if let Some(other) = other_of(answers, place, path) {
-            found.push(other)?;
-        }
-    }
-    Ok(found)
-}
 
 /// The path at a place, where its answers tell of packets, but of none from the source that the setup names.
-fn other_of<'a>(
-    answers: &'a SavedAnswers,
-    place: usize,
-    path: &'a PathSetup,
-) -> Option<OtherChannel<'a>>
-    ensures { MatchOption result (¬ IsOfOthers answers.entry.now.paths.items place path.entry.now) (λ n. IsOfOthers answers.entry.now.paths.items place path.entry.now × SaysChannels answers.entry.now.paths.items place path.entry.now n) }
+pub fn other_channel(setup: &Setup, answers: &SavedAnswers, place: usize) -> Option<Notice>
+    ensures { result ≡ other_channel setup.now answers.now place }
 {
-    let sources = other_source(path, answers_at(&answers.paths, place))?;
-    let path = path.config.id.as_str();
-    Some(OtherChannel { path, sources })
+    let path = setup.paths.get(place)?;
+    let is_due = is_of_others(path, answers_at(&answers.paths, place));
+    is_due.then_some(Notice::OtherChannel { path: place })
+}
+
+/// The source that the setup names for a path, and that of the first packet; empty texts where the setup names none, or its own.
+pub fn sources_of<'a>(path: &'a PathSetup, saved: &'a [Saved]) -> (&'a str, &'a str) {
+    match other_source(path, saved) {
+        Some(sources) => (sources.named, sources.told),
+        None => ("", ""),
+    }
+}
+
+/// Whether the setup names a path's source, and the answers tell of packets, but of none from it.
+fn is_of_others(path: &PathSetup, saved: &[Saved]) -> bool
+    ensures { result ≡ is_of_others path.now saved.now }
+{
+    other_source(path, saved).is_some()
 }

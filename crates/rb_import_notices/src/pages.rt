@@ -1,101 +1,48 @@
 //! Notices of clients of whose consensus states a page is lost.
-ghost use Rattle.std.specs.Prelude.{◌≡◌, ◌<◌, ◌≤◌, ℕ, All, IfOk, MatchOption, option_map};
-ghost use Rattle.rb_import_notices.specs.Pages.{IsLost, LacksPage, SaysPage, TellPages, at_last, count_pages, is_lacking, is_later_there, is_of_states, is_page, is_there, page_named, page_of, pages_of, stem_of};
+ghost use Rattle.std.specs.Prelude.{◌≡◌, ◌<◌, IfOk, max, option_map};
+ghost use Rattle.std.specs.List.{reduce};
+ghost use Rattle.rb_import_notices.specs.Pages.{at_last, count_pages, first_lacking, is_lacking, is_later_there, is_of_states, is_page, is_there, lost_page, missing_states, page_named, page_of, pages_of, stem_of};
 
+use crate::notice::Notice;
 use rb_import_answers::NodeAnswer;
-use rb_import_check::Saved;
+use rb_import_check::{Saved, SavedAnswers};
 use rb_import_json::number_of;
-use rb_import_setup::{ClientSetup, Setup};
+use rb_import_merge::answers_at;
 use std::alloc::{AllocError, Global};
-use std::fmt;
 
-/// A client, and the first page of its consensus states that isn't among its answers, although a later one is.
-#[derive(Clone, Copy)]
-pub struct MissingStates<'a> {
-    pub client: &'a str,
-    pub page: u64,
-}
-
-impl fmt::Display for MissingStates<'_> {
-    ghost use Rattle.std.specs.Prelude.{Some};
-    ghost use Rattle.rb_import_notices.specs.NoticeTexts.{missing_states_text};
-
-    ghost output = { λ n. Some (missing_states_text n) };
-
-    fn fmt<W: fmt::Write>(&self, f: &mut fmt::Formatter<W>) -> fmt::Result {
-        let client = self.client;
-        let page = self.page;
-        write!(
-            f,
-            "notice MissingStates at {client} {page}: the answers have a later page of the client's consensus states, and not this one; delete the files consensus_states-*.json of higher numbers in the folder {client}, and fetch the pages from this one on"
-        )
-    }
-}
-
-/// The clients of whose consensus states a page is lost, by the answers of each.
-pub fn missing_states<'a>(
+/// The client at a place, where a page of its consensus states is lost.
+pub fn missing_states(
     alloc: Global,
-    setup: &'a Setup,
-    answers: &[Vec<Saved>],
-) -> Result<Vec<MissingStates<'a>>, AllocError>
-    ensures { IfOk result (λ found. TellPages setup.entry.now answers.now found.items) }
+    answers: &SavedAnswers,
+    client: usize,
+) -> Result<Option<Notice>, AllocError>
+    ensures { IfOk result (λ due. due ≡ missing_states answers.now client) }
 {
-    let mut found = Vec::new(alloc);
-    for (place, client) in setup.clients.iter().enumerate() {
-        if let Some(missing) = missing_at(alloc, answers, place, client)? {
-            found.push(missing)?;
-        }
-    }
-    Ok(found)
-}
-
-/// The client at a place, where a page is lost.
-fn missing_at<'a>(
-    alloc: Global,
-    answers: &[Vec<Saved>],
-    place: usize,
-    client: &'a ClientSetup,
-) -> Result<Option<MissingStates<'a>>, AllocError>
-    ensures { IfOk result (λ o. MatchOption o (¬ LacksPage answers.now place) (λ n. LacksPage answers.now place × SaysPage answers.now place client.entry.now n)) }
-{
-    let Some(saved) = answers.get(place) else {
-        return Ok(None);
-    };
-    match lost_page(alloc, saved.as_slice())? {
-        Some(page) => {
-            let client = client.id.as_str();
-            Ok(Some(MissingStates { client, page }))
-        }
-        None => Ok(None),
-    }
+    let page = lost_page(alloc, answers_at(&answers.clients, client))?;
+    Ok(page.map(|page| Notice::MissingStates { client, page }))
 }
 
 /// The first page that is lost.
 fn lost_page(alloc: Global, saved: &[Saved]) -> Result<Option<u64>, AllocError>
-    ensures { IfOk result (λ o. MatchOption o ((page : ℕ) → ¬ IsLost saved.now page) (IsLost saved.now)) }
+    ensures { IfOk result (λ page. page ≡ lost_page saved.now) }
 {
     let pages = pages_of(alloc, saved)?;
-    let count = count_pages(saved);
-    let highest = highest_of(pages.as_slice());
-    for page in 1..highest {
-        if is_lacking(pages.as_slice(), count, page) {
-            return Ok(Some(page));
-        }
-    }
-    Ok(None)
+    Ok(first_lacking(pages.as_slice(), count_pages(saved)))
 }
 
-/// A number that is at least each of these.
-fn highest_of(pages: &[u64]) -> u64
-    ensures { All (λ page. page ≤ result) pages.now }
+/// The first page that isn't among these, while a later one is, whose number is above this count.
+fn first_lacking(pages: &[u64], count: u64) -> Option<u64>
+    ensures { result ≡ first_lacking pages.now count }
 {
-    let mut highest = 0;
-    for page in pages {
-        if *page > highest {
-            highest = *page;
-        }
-    }
-    highest
+    let highest = greatest_of(pages)?;
+    (1..highest).find(|&page| is_lacking(pages, count, page))
+}
+
+/// The greatest of these numbers.
+fn greatest_of(pages: &[u64]) -> Option<u64>
+    ensures { result ≡ reduce max pages.now }
+{
+    pages.iter().copied().max()
 }
 
 /// Whether a page isn't among these, and a later one is, whose number is above this count.

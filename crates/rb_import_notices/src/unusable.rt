@@ -1,332 +1,179 @@
 //! Notices of what can't be used in the windows of the last turn: expired records, headers from the future, and goals for
 //! which there is no header.
-ghost use Rattle.std.specs.Prelude.{◌≡◌, ◌↔◌, ◌+◌, ◌<◌, ◌≤◌, length, nat_le, count_by, All, Any, IsTrue, IfNone, IfOk, IfSome, MatchOption};
-ghost use Rattle.std.specs.Fmt.{WritesOnOk};
-ghost use Rattle.rb_import_notices.specs.NoticeTexts.{expired_text, which_height};
-ghost use Rattle.rb_import_notices.specs.Unusable.{HasFuture, HaveExpired, IsExpired, IsFromFuture, IsGoal, IsUnseen, MissesGoal, SaysFuture, SaysGoal, SaysUntrusted, TellFuture, TellGoals, TellThese, TellUntrusted};
+ghost use Rattle.std.specs.Prelude.{◌≡◌};
+ghost use Rattle.rb_import_notices.specs.Unusable.{count_ahead, future_headers, has_expired, have_expired, is_from_future, is_missed, is_unseen, last_goals, lowest_ahead, no_header_meets, no_record_meets, nothing_trusted, unseen_goal, wants};
 
-use rb_base::{Period, Window};
-use rb_import_check::{Commit, SeenChain, SeenClient, Stored};
+use crate::notice::Notice;
+use rb_base::{Height, Period, Window};
+use rb_import_check::{Commit, Stored};
 use rb_import_merge::Seen;
-use rb_import_setup::{ClientSetup, Setup};
+use rb_import_setup::Setup;
 use rb_script_types::{Asked, Goal};
-use std::alloc::{AllocError, Global};
 use std::fmt;
 
-/// A client none of whose records is trusted to the window's end: each of so many has expired by then.
+/// That all of so many records have expired, in words.
 #[derive(Clone, Copy)]
-pub struct NothingTrusted<'a> {
-    pub client: &'a str,
-    pub expired: usize,
+pub struct Expired {
+    pub records: usize,
 }
 
-impl fmt::Display for NothingTrusted<'_> {
-    ghost use Rattle.std.specs.Prelude.{Some};
-    ghost use Rattle.rb_import_notices.specs.NoticeTexts.{nothing_trusted_text};
-
-    ghost output = { λ n. Some (nothing_trusted_text n) };
-
+impl fmt::Display for Expired {
     fn fmt<W: fmt::Write>(&self, f: &mut fmt::Formatter<W>) -> fmt::Result {
-        let client = self.client;
-        write!(f, "notice NothingTrusted at {client}")?;
-        write_expired(f, self.expired)?;
-        write!(
-            f,
-            ", so that no update starts from any; see whether the window is right, or fetch the client's consensus states again into files *.json of the folder {client}"
-        )
-    }
-}
-
-/// Writes that so many records have expired, which are all.
-#[tactic(auto, unfolding(crate::specs::NoticeTexts::expired_text))]
-fn write_expired<W: fmt::Write>(f: &mut fmt::Formatter<W>, expired: usize) -> fmt::Result
-    ensures { WritesOnOk W.write_str_gives f.old result (expired_text expired) f.new }
-{
-    match expired {
-        0 => f.write_str(": it has stored no consensus state"),
-        1 => f.write_str(": its stored consensus state has expired at the window's end"),
-        _ => write!(
-            f,
-            ": all {expired} stored consensus states have expired at the window's end"
-        ),
-    }
-}
-
-/// A client, and the chain that it tracks: so many headers of that, from a height on, are ahead of the window's first
-/// moment by the client's clock drift or more, so that it takes none of them throughout the window.
-#[derive(Clone, Copy)]
-pub struct FutureHeaders<'a> {
-    pub client: &'a str,
-    pub chain: &'a str,
-    pub count: usize,
-    pub lowest: u64,
-}
-
-impl fmt::Display for FutureHeaders<'_> {
-    ghost use Rattle.std.specs.Prelude.{Some};
-    ghost use Rattle.rb_import_notices.specs.NoticeTexts.{future_headers_text};
-
-    ghost output = { λ n. Some (future_headers_text n) };
-
-    fn fmt<W: fmt::Write>(&self, f: &mut fmt::Formatter<W>) -> fmt::Result {
-        let client = self.client;
-        let chain = self.chain;
-        let count = self.count;
-        let lowest = self.lowest;
-        write!(
-            f,
-            "notice FutureHeaders at {client} {lowest}: headers of {chain} from this height on, {count} of them, are ahead of the window's first moment by the client's clock drift or more, so that no update takes them; let the window begin later"
-        )
-    }
-}
-
-/// A goal of the last turn, by its height and by whether it is of that one alone, and the chain that its client
-/// tracks: no header of that is of a height that the goal wants, nor is a stored record.
-#[derive(Clone, Copy)]
-pub struct UnseenGoal<'a> {
-    pub client: &'a str,
-    pub chain: &'a str,
-    pub height: u64,
-    pub is_exact: bool,
-}
-
-impl fmt::Display for UnseenGoal<'_> {
-    ghost use Rattle.std.specs.Prelude.{Some};
-    ghost use Rattle.rb_import_notices.specs.NoticeTexts.{unseen_goal_text};
-
-    ghost output = { λ n. Some (unseen_goal_text n) };
-
-    fn fmt<W: fmt::Write>(&self, f: &mut fmt::Formatter<W>) -> fmt::Result {
-        let client = self.client;
-        let chain = self.chain;
-        let height = self.height;
-        let which = which_height(self.is_exact);
-        write!(
-            f,
-            "notice UnseenGoal at {client} {height}: {chain} has no header {which} height, so that no update reaches it; fetch /commit?height={height} and all pages of /validators?height={height}&per_page=100 into files *.json of the folder {chain}"
-        )
-    }
-}
-
-/// Which height a goal wants, as a notice says it.
-#[tactic(auto, unfolding(crate::specs::NoticeTexts::which_height))]
-fn which_height(is_exact: bool) -> &'static str
-    ensures { result.now ≡ which_height is_exact }
-{
-    if is_exact {
-        "at the goal's"
-    } else {
-        "at or above the goal's"
-    }
-}
-
-/// The clients none of whose records is trusted to the end of their window in the last turn.
-pub fn nothing_trusted<'a>(
-    alloc: Global,
-    setup: &'a Setup,
-    seen: &Seen<'a>,
-) -> Result<Vec<NothingTrusted<'a>>, AllocError>
-    ensures { IfOk result (λ found. TellUntrusted setup.entry.now seen.now found.items) }
-{
-    let mut found = Vec::new(alloc);
-    for (place, client) in setup.clients.iter().enumerate() {
-        if let Some(untrusted) = untrusted_at(setup, seen, place, client) {
-            found.push(untrusted)?;
+        match self.records {
+            0 => f.write_str("it has stored no consensus state"),
+            1 => f.write_str("its stored consensus state has expired at the window's end"),
+            records => write!(
+                f,
+                "all {records} stored consensus states have expired at the window's end"
+            ),
         }
     }
-    Ok(found)
+}
+
+/// The height of a goal, and which one it wants, in words.
+pub fn wanted_height(goal: Goal) -> (u64, &'static str) {
+    match goal {
+        Goal::Exactly(height) => (height.get(), "at the goal's"),
+        Goal::AtLeast(height) => (height.get(), "at or above the goal's"),
+    }
 }
 
 /// The client at a place, where none of its records is trusted to the end of its window in the last turn.
-fn untrusted_at<'a>(
-    setup: &Setup,
-    seen: &Seen<'_>,
-    place: usize,
-    client: &'a ClientSetup,
-) -> Option<NothingTrusted<'a>>
-    ensures { MatchOption result (¬ HaveExpired setup.now seen.now place) (λ n. HaveExpired setup.now seen.now place × SaysUntrusted seen.now place client.entry.now n) }
+pub fn nothing_trusted(setup: &Setup, seen: &Seen<'_>, client: usize) -> Option<Notice>
+    ensures { result ≡ nothing_trusted setup.now seen.now client }
 {
     let turn = setup.turns.last()?;
-    let judging = seen.clients.get(place)?;
-    let records = seen.records.get(place)?;
-    let window = setup.window_of(place, turn.window);
-    if !have_expired(judging, records.as_slice(), &window) {
-        return None;
-    }
-    Some(NothingTrusted {
-        client: client.id.as_str(),
+    let judging = seen.clients.get(client)?;
+    let records = seen.records.get(client)?.as_slice();
+    let window = setup.window_of(client, turn.window);
+    let is_due = have_expired(judging.period, &window, records);
+    is_due.then_some(Notice::NothingTrusted {
+        client,
         expired: records.len(),
     })
 }
 
 /// Whether all records of a client have expired at a window's end.
-fn have_expired(client: &SeenClient<'_>, records: &[Stored<'_>], window: &Window) -> bool
-    ensures { IsTrue result ↔ All (IsExpired client.now.period window.now) records.now }
+fn have_expired(period: Period, window: &Window, records: &[Stored<'_>]) -> bool
+    ensures { result ≡ have_expired period window.now records.now }
 {
     records
         .iter()
-        .all(|record| has_expired(client.period, record, window))
+        .all(|record| has_expired(period, window, record))
 }
 
 /// Whether a record has expired at a window's end (ICS 7; CometBFT light client, `HeaderExpired`).
-fn has_expired(period: Period, stored: &Stored<'_>, window: &Window) -> bool
-    ensures { IsTrue result ↔ IsExpired period window.now stored.now }
+fn has_expired(period: Period, window: &Window, stored: &Stored<'_>) -> bool
+    ensures { result ≡ has_expired period window.now stored.now }
 {
     let last = window.until().nanoseconds();
     stored.state.time.nanoseconds() + u128::from(period.nanoseconds()) <= last
 }
 
-/// The clients with headers that they take for such from the future at the beginning of their window in the last turn.
-pub fn future_headers<'a>(
-    alloc: Global,
-    setup: &'a Setup,
-    seen: &Seen<'a>,
-) -> Result<Vec<FutureHeaders<'a>>, AllocError>
-    ensures { IfOk result (λ found. TellFuture setup.entry.now seen.now found.items) }
-{
-    let mut found = Vec::new(alloc);
-    for (place, client) in setup.clients.iter().enumerate() {
-        if let Some(ahead) = future_at(setup, seen, place, client) {
-            found.push(ahead)?;
-        }
-    }
-    Ok(found)
-}
-
-/// The headers that the client at a place takes for such from the future, if there are some.
-fn future_at<'a>(
-    setup: &'a Setup,
-    seen: &Seen<'_>,
-    place: usize,
-    client: &'a ClientSetup,
-) -> Option<FutureHeaders<'a>>
-    ensures { MatchOption result (¬ HasFuture setup.entry.now seen.now place client.entry.now) (λ n. HasFuture setup.entry.now seen.now place client.entry.now × SaysFuture setup.entry.now seen.now place client.entry.now n) }
+/// The client at a place, where it takes headers for such from the future at the beginning of its window in the last turn.
+pub fn future_headers(setup: &Setup, seen: &Seen<'_>, client: usize) -> Option<Notice>
+    ensures { result ≡ future_headers setup.now seen.now client }
 {
     let turn = setup.turns.last()?;
-    let id = setup.chains.get(client.tracks)?;
-    let judging = seen.clients.get(place)?;
-    let chain = seen.chains.get(client.tracks)?;
-    let window = setup.window_of(place, turn.window);
-    let lowest = lowest_ahead(judging.drift, chain, &window)?;
-    Some(FutureHeaders {
-        client: client.id.as_str(),
-        chain: id.as_str(),
-        count: count_ahead(judging.drift, chain.commits.as_slice(), &window),
+    let own = setup.clients.get(client)?;
+    let judging = seen.clients.get(client)?;
+    let commits = seen.chains.get(own.tracks)?.commits.as_slice();
+    let window = setup.window_of(client, turn.window);
+    let lowest = lowest_ahead(judging.drift, &window, commits)?;
+    Some(Notice::FutureHeaders {
+        client,
+        headers: count_ahead(judging.drift, &window, commits),
         lowest,
     })
 }
 
-/// The lowest height of a chain's headers that are from the future to a client with this clock drift.
-fn lowest_ahead(drift: u64, chain: &SeenChain<'_>, window: &Window) -> Option<u64>
-    ensures none { IfNone result (¬ Any (IsFromFuture drift window.now) chain.now.commits.items) }
-    ensures some { IfSome result (λ lowest. Any (λ c. IsFromFuture drift window.now c × (c.header.now.height ≡ lowest)) chain.now.commits.items) }
-    ensures lowest { IfSome result (λ lowest. All (λ c. IsFromFuture drift window.now c → lowest ≤ c.header.now.height) chain.now.commits.items) }
-{
-    for commit in &chain.commits {
-        if is_from_future(drift, commit, window) {
-            return Some(commit.header.height.get());
-        }
-    }
-    None
-}
-
-/// How many headers are from the future to a client with this clock drift.
-fn count_ahead(drift: u64, commits: &[Commit<'_>], window: &Window) -> usize
-    ensures { result ≡ count_by (λ c. nat_le (window.now.from + drift) c.header.now.time) commits.now }
+/// The lowest height of the headers that are from the future to a client with this clock drift.
+fn lowest_ahead(drift: u64, window: &Window, commits: &[Commit<'_>]) -> Option<u64>
+    ensures { result ≡ lowest_ahead drift window.now commits.now }
 {
     commits
         .iter()
-        .filter(|commit| is_from_future(drift, commit, window))
+        .filter(|commit| is_from_future(drift, window, commit))
+        .map(|commit| commit.header.height.get())
+        .min()
+}
+
+/// How many headers are from the future to a client with this clock drift.
+fn count_ahead(drift: u64, window: &Window, commits: &[Commit<'_>]) -> usize
+    ensures { result ≡ count_ahead drift window.now commits.now }
+{
+    commits
+        .iter()
+        .filter(|commit| is_from_future(drift, window, commit))
         .count()
 }
 
 /// Whether a header is ahead of a window's first moment by a clock drift or more (ICS 7).
-fn is_from_future(drift: u64, commit: &Commit<'_>, window: &Window) -> bool
-    ensures future { IsTrue result ↔ IsFromFuture drift window.now commit.now }
-    ensures value { result ≡ nat_le (window.now.from + drift) commit.now.header.now.time }
+fn is_from_future(drift: u64, window: &Window, commit: &Commit<'_>) -> bool
+    ensures { result ≡ is_from_future drift window.now commit.now }
 {
     let first = window.from().nanoseconds();
-    commit.header.time.nanoseconds() >= first + u128::from(drift)
+    first + u128::from(drift) <= commit.header.time.nanoseconds()
 }
 
-/// The goals of the last turn of whose heights nothing was seen. A chain without any header is told of by itself.
-pub fn unseen_goals<'a>(
-    alloc: Global,
-    setup: &'a Setup,
-    seen: &Seen<'a>,
-) -> Result<Vec<UnseenGoal<'a>>, AllocError>
-    ensures { IfOk result (λ found. TellGoals setup.entry.now seen.now found.items) }
+/// The goals of the last turn.
+pub fn last_goals(setup: &Setup) -> &[Asked]
+    ensures { result.now ≡ last_goals setup.now }
 {
     match setup.turns.last() {
-        Some(turn) => unseen_of(alloc, setup, seen, turn.goals.as_slice()),
-        None => Ok(Vec::new(alloc)),
+        Some(turn) => turn.goals.as_slice(),
+        None => &[],
     }
 }
 
-/// Those of these goals of whose heights nothing was seen.
-fn unseen_of<'a>(
-    alloc: Global,
-    setup: &'a Setup,
-    seen: &Seen<'a>,
-    goals: &[Asked],
-) -> Result<Vec<UnseenGoal<'a>>, AllocError>
-    ensures { IfOk result (λ found. TellThese setup.entry.now seen.now goals.now found.items) }
+/// The goal at a place in the last turn, where nothing of its heights was seen. A chain without any header is told of by
+/// itself.
+pub fn unseen_goal(setup: &Setup, seen: &Seen<'_>, place: usize) -> Option<Notice>
+    ensures { result ≡ unseen_goal setup.now seen.now place }
 {
-    let mut found = Vec::new(alloc);
-    for asked in goals {
-        if let Some(unseen) = unseen_goal(setup, seen, asked) {
-            found.push(unseen)?;
-        }
-    }
-    Ok(found)
-}
-
-/// A goal, where its client's chain has headers, and neither one of these nor a stored record is of a height that
-/// the goal wants.
-fn unseen_goal<'a>(setup: &'a Setup, seen: &Seen<'_>, asked: &Asked) -> Option<UnseenGoal<'a>>
-    ensures { MatchOption result (¬ MissesGoal setup.entry.now seen.now asked.now) (λ n. MissesGoal setup.entry.now seen.now asked.now × SaysGoal setup.entry.now asked.now n) }
-{
+    let asked = last_goals(setup).get(place)?;
     let client = setup.clients.get(asked.client)?;
-    let id = setup.chains.get(client.tracks)?;
     let chain = seen.chains.get(client.tracks)?;
     let records = seen.records.get(asked.client)?;
-    if !is_missed(asked.goal, chain.commits.as_slice(), records.as_slice()) {
-        return None;
-    }
-    let (height, is_exact) = height_of(asked.goal);
-    Some(UnseenGoal {
-        client: client.id.as_str(),
-        chain: id.as_str(),
-        height,
-        is_exact,
-    })
-}
-
-/// The height of a goal, and whether it is of that one alone.
-fn height_of(goal: Goal) -> (u64, bool)
-    ensures { IsGoal goal result.0 result.1 }
-{
-    match goal {
-        Goal::Exactly(height) => (height.get(), true),
-        Goal::AtLeast(height) => (height.get(), false),
-    }
+    let is_due = is_missed(&asked.goal, chain.commits.as_slice(), records.as_slice());
+    is_due.then_some(Notice::UnseenGoal { goal: place })
 }
 
 /// Whether a chain has headers, and neither one of these nor a record is of a height that a goal wants.
-fn is_missed(goal: Goal, commits: &[Commit<'_>], records: &[Stored<'_>]) -> bool
-    ensures { IsTrue result ↔ ((0 < length commits.now) × IsUnseen goal commits.now records.now) }
+fn is_missed(goal: &Goal, commits: &[Commit<'_>], records: &[Stored<'_>]) -> bool
+    ensures { result ≡ is_missed goal.now commits.now records.now }
 {
     !commits.is_empty() && is_unseen(goal, commits, records)
 }
 
 /// Whether neither a header nor a record is of a height that a goal wants.
-fn is_unseen(goal: Goal, commits: &[Commit<'_>], records: &[Stored<'_>]) -> bool
-    ensures { IsTrue result ↔ IsUnseen goal commits.now records.now }
+fn is_unseen(goal: &Goal, commits: &[Commit<'_>], records: &[Stored<'_>]) -> bool
+    ensures { result ≡ is_unseen goal.now commits.now records.now }
+{
+    no_header_meets(*goal, commits) && no_record_meets(*goal, records)
+}
+
+/// Whether no header is of a height that a goal wants.
+fn no_header_meets(goal: Goal, commits: &[Commit<'_>]) -> bool
+    ensures { result ≡ no_header_meets goal commits.now }
 {
     commits
         .iter()
-        .all(|commit| !goal.wants(commit.header.height))
-        && records
-            .iter()
-            .all(|record| !goal.wants(record.state.height))
+        .all(|commit| !wants(goal, commit.header.height))
+}
+
+/// Whether no record is.
+fn no_record_meets(goal: Goal, records: &[Stored<'_>]) -> bool
+    ensures { result ≡ no_record_meets goal records.now }
+{
+    records
+        .iter()
+        .all(|record| !wants(goal, record.state.height))
+}
+
+/// Whether a goal wants a height.
+fn wants(goal: Goal, height: Height) -> bool
+    ensures { result ≡ wants goal height }
+{
+    goal.wants(height)
 }

@@ -1,31 +1,33 @@
 -- The setup of a text: a script without events.
-use Rattle.std.specs.Prelude.{ℕ, List, [], map, codes, Result, Ok, nat_lt}
+use Rattle.std.specs.Prelude.{ℕ, List, [], map, codes, Option, option_map, Result, Ok, nat_lt}
 use Rattle.toml.specs.Data.{Items, no_items}
 use Rattle.toml.specs.View.{items_view}
 use Rattle.rb_script_toml.specs.Faults.{Fault, ◌>>=◌, check}
 use Rattle.rb_script_toml.specs.Fields.{Section, only, needs, required, optional, or_default, number, array, items_count, elements}
 use Rattle.rb_script_toml.specs.declared.fault.FaultName.TheVariants.{BadVersion, MissingKey}
 use Rattle.rb_script_toml.specs.Documents.{document}
-use Rattle.rb_script_types.specs.declared.version.Version.TheVariants.{One}
-use Rattle.rb_script_config.specs.Chains.{chain, chain_ids}
+use Rattle.rb_script_config.specs.Chains.{chain_ids}
 use Rattle.rb_script_config.specs.Tables.{top_keys}
 use Rattle.rb_script_types.specs.Limits.{max_chains, max_clients, max_paths, max_turns}
 use Rattle.rb_import_setup.specs.declared.setup.ClientSetup.{ClientSetup}
 use Rattle.rb_import_setup.specs.declared.setup.Setup.{Setup as CodeSetup}
 use Rattle.rb_import_setup.specs.declared.reading.Tables.{Tables as CodeTables}
+use Rattle.rb_import_setup.specs.Chains.{chain}
 use Rattle.rb_import_setup.specs.Clients.{client}
 use Rattle.rb_import_setup.specs.Paths.{Path, path, path_view}
+use Rattle.rb_import_setup.specs.Senders.{Sender, sender_of, sender_view}
 use Rattle.rb_import_setup.specs.Turns.{Turn, turn, turn_view}
 
--- the chains, clients, paths and turns
+-- the chains, who sends transactions to each, the clients, paths and turns
 pub record Setup : Type 0 where
   pub chains : List (List ℕ)
+  pub senders : List (Option Sender)
   pub clients : List ClientSetup
   pub paths : List Path
   pub turns : List Turn
 
 abbrev pub setup_view : CodeSetup → Setup
-setup_view s = record { chains = s.chains.items; clients = s.clients.items; paths = map path_view s.paths.items; turns = map turn_view s.turns.items }
+setup_view s = record { chains = s.chains.items; senders = map (option_map sender_view) s.senders.items; clients = s.clients.items; paths = map path_view s.paths.items; turns = map turn_view s.turns.items }
 
 -- what the keys of the whole text hold
 pub record Tables : Type 0 where
@@ -55,16 +57,17 @@ tables s = do
   turns ← some_turns s
   Ok (record { chains = chains; clients = clients; paths = paths; turns = turns })
 
--- each table beside those before it; chains have no key but their identifier, as in version 1 of a script
+-- each table beside those before it; the identifiers of the chains come before who sends to them
 unfoldable pub setup : Section → Result Setup Fault
 setup s = do
   t ← tables s
-  shared ← elements (chain One) (codes "chain") [] t.chains
+  shared ← elements chain (codes "chain") [] t.chains
   let chains = chain_ids shared
+  senders ← elements sender_of (codes "chain") [] t.chains
   clients ← elements (client chains) (codes "client") [] t.clients
   paths ← elements (path chains clients) (codes "path") [] t.paths
   turns ← elements (turn chains clients) (codes "turn") [] t.turns
-  Ok (record { chains = chains; clients = clients; paths = paths; turns = turns })
+  Ok (record { chains = chains; senders = senders; clients = clients; paths = paths; turns = turns })
 
 -- the setup of a text, or its first fault
 unfoldable pub setup_of : List ℕ → Result Setup Fault

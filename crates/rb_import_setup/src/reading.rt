@@ -6,13 +6,15 @@ ghost use Rattle.rb_script_toml.specs.Fields.{section_view};
 ghost use Rattle.rb_script_toml.specs.Documents.{whole};
 ghost use Rattle.rb_import_setup.specs.Setups.{some_turns, setup, setup_of, setup_view, tables, tables_view};
 
+use crate::chain::read_chains;
 use crate::client::read_clients;
 use crate::path::read_paths;
+use crate::sender::read_senders;
 use crate::setup::Setup;
 use crate::turn::read_turns;
-use rb_script_config::{ids_of, only_top_keys, read_chains};
+use rb_script_config::{ids_of, only_top_keys};
 use rb_script_toml::{FaultName, RunError, Section, read_table};
-use rb_script_types::{MAX_CHAINS, MAX_CLIENTS, MAX_PATHS, MAX_TURNS, Version};
+use rb_script_types::{MAX_CHAINS, MAX_CLIENTS, MAX_PATHS, MAX_TURNS};
 use std::alloc::Global;
 use toml::{Table, Value};
 
@@ -66,21 +68,24 @@ fn read_document(alloc: Global, table: &Table) -> Result<Setup, RunError>
         table,
     };
     let tables = read_tables(section)?;
-    let chains = read_chains(alloc, Version::One, tables.chains)?;
+    let chains = read_chains(alloc, tables.chains)?;
     let chains = ids_of(alloc, &chains)?;
+    let senders = read_senders(alloc, tables.chains)?;
     let clients = read_clients(alloc, tables.clients, &chains)?;
     let paths = read_paths(alloc, tables.paths, &chains, &clients)?;
     let turns = read_turns(alloc, tables.turns, &chains, &clients)?;
     Ok(Setup {
         chains: chains.into_vec(),
+        senders,
         clients: clients.into_vec(),
         paths: paths.into_vec(),
         turns,
     })
 }
 
-/// Reads the setup that a text holds: a script without events, with at least one turn, whose
-/// clients may leave out `period_ns`, `drift_ns` and `trust`, and whose paths may have `wait_ns`, as those of
+/// Reads the setup that a text holds: a script without events, with at least one turn, whose chains may have `signer`,
+/// `fee_denom`, `gas_price`, `gas_factor` and `client_message`, whose clients may leave out `period_ns`, `drift_ns` and
+/// `trust`, and whose paths may have `wait_ns`, as those of
 /// version 3, `port` and `channel`, and beside these `counterparty_port` and `counterparty_channel`. `Fault` is its first
 /// fault, in the order in which scripts are judged (docs/FORMATS.md); `NoMemory` comes where a growth
 /// is refused.

@@ -1,9 +1,11 @@
 //! What is left of a setup without the clients and the paths whose answers can't be taken.
 ghost use Rattle.std.specs.Prelude.{◌≡◌, IfOk, filter, map, option_map, string_bytes};
 ghost use Rattle.rb_import_setup.specs.Paths.{path_view};
+ghost use Rattle.rb_import_setup.specs.Senders.{sender_view};
 ghost use Rattle.rb_import_setup.specs.Turns.{turn_view};
 ghost use Rattle.rb_import_setup.specs.Rests.{client_stays, left_goals, left_settlements, left_turn, moved_path, new_place, path_stays, stays_at, tracks_chain};
 
+use crate::sender::Sender;
 use crate::setup::{ClientSetup, PathSetup, Setup, TurnSetup};
 use rb_base::ChainId;
 use rb_script_types::{Asked, PathConfig, Settlement};
@@ -18,18 +20,20 @@ pub struct Rest {
 }
 
 /// The setup without the client and the path of an identifier, and without the clients that track the chain of
-/// it. With a client go the paths that it serves, and the goals and settlements that name it. All chains
-/// and all windows stay. `AllocError` comes where a growth is refused.
+/// it. With a client go the paths that it serves, and the goals and settlements that name it. All chains,
+/// all who send to them and all windows stay. `AllocError` comes where a growth is refused.
 pub fn rest_without(alloc: Global, setup: &Setup, id: &str) -> Result<Rest, AllocError>
     ensures which_clients { IfOk result (λ rest. rest.clients.items ≡ map (client_stays setup.now.chains.items id.now) setup.now.clients.items) }
     ensures which_paths { IfOk result (λ rest. rest.paths.items ≡ map (path_stays rest.clients.items id.now) setup.now.paths.items) }
     ensures chains { IfOk result (λ rest. rest.setup.chains.items ≡ setup.now.chains.items) }
+    ensures senders { IfOk result (λ rest. map (option_map sender_view) rest.setup.senders.items ≡ map (option_map sender_view) setup.now.senders.items) }
     ensures clients { IfOk result (λ rest. rest.setup.clients.items ≡ filter (client_stays setup.now.chains.items id.now) setup.now.clients.items) }
     ensures paths { IfOk result (λ rest. map path_view rest.setup.paths.items ≡ map (moved_path rest.clients.items) (filter (path_stays rest.clients.items id.now) setup.now.paths.items)) }
     ensures turns { IfOk result (λ rest. map turn_view rest.setup.turns.items ≡ map (left_turn rest.clients.items) setup.now.turns.items) }
 {
     let Setup {
         chains,
+        senders,
         clients: all_clients,
         paths: all_paths,
         turns,
@@ -38,6 +42,7 @@ pub fn rest_without(alloc: Global, setup: &Setup, id: &str) -> Result<Rest, Allo
     let paths = paths_stay(alloc, clients.as_slice(), id, all_paths.as_slice())?;
     let left = Setup {
         chains: Vec::from_slice(alloc, chains.as_slice())?,
+        senders: copies_of(alloc, senders.as_slice())?,
         clients: left_clients(alloc, chains.as_slice(), id, all_clients.as_slice())?,
         paths: left_paths(alloc, clients.as_slice(), id, all_paths.as_slice())?,
         turns: left_turns(alloc, clients.as_slice(), turns.as_slice())?,
@@ -47,6 +52,34 @@ pub fn rest_without(alloc: Global, setup: &Setup, id: &str) -> Result<Rest, Allo
         clients,
         paths,
     })
+}
+
+/// Copies of those who send to chains.
+fn copies_of(alloc: Global, senders: &[Option<Sender>]) -> Result<Vec<Option<Sender>>, AllocError>
+    ensures { IfOk result (λ copies. map (option_map sender_view) copies.items ≡ map (option_map sender_view) senders.now) }
+{
+    let mut copies = Vec::with_capacity(alloc, senders.len())?;
+    for sender in senders {
+        let copy = copy_of(alloc, sender)?;
+        copies.push(copy)?;
+    }
+    Ok(copies)
+}
+
+/// A copy of who sends to a chain, if somebody does.
+fn copy_of(alloc: Global, sender: &Option<Sender>) -> Result<Option<Sender>, AllocError>
+    ensures { IfOk result (λ copy. option_map sender_view copy ≡ option_map sender_view sender.now) }
+{
+    match sender {
+        Some(sender) => Ok(Some(Sender {
+            signer: String::from_str(alloc, sender.signer.as_str())?,
+            fee_denom: String::from_str(alloc, sender.fee_denom.as_str())?,
+            gas_price: sender.gas_price,
+            gas_factor: sender.gas_factor,
+            update_field: sender.update_field,
+        })),
+        None => Ok(None),
+    }
 }
 
 /// Of each client whether it stays.

@@ -3,15 +3,18 @@ ghost use Rattle.std.specs.Prelude.{length};
 ghost use Rattle.rb_import_setup.specs.Places.{ArePlaces};
 ghost use Rattle.rb_import_setup.specs.Clients.{client_ends};
 
+use crate::sender::Sender;
 use rb_base::{ChainId, ClientId, Period, Window};
 use rb_script_config::{Client, ClientTerms, Drift, Named};
 use rb_script_types::{Asked, HostWindow, PathConfig, Settlement};
 
 /// The chains, clients and paths of a script, and its turns, of which there is at least one. Chains
-/// and clients are named by their places, each of which is the place of one.
+/// and clients are named by their places, each of which is the place of one. Of each chain, at its place, who sends
+/// transactions to it, where that is told.
 #[derive(Drop)]
 pub struct Setup {
     pub chains: Vec<ChainId>,
+    pub senders: Vec<Option<Sender>>,
     pub clients: Vec<ClientSetup>,
     pub paths: Vec<PathSetup>,
     pub turns: Vec<TurnSetup>,

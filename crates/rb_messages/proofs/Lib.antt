@@ -1,3 +1,4 @@
+pub mod Texts
 pub mod Zipped
 pub mod Memory
 pub mod Missing

@@ -2,10 +2,8 @@
 use Rattle.std.specs.Prelude.{ℕ, List, ◌++◌, codes, decimal}
 use Rattle.rb_import_check.specs.ErrorTexts.{import_error_text}
 use Rattle.rb_import_check.specs.Hexadecimals.{hexadecimal}
-use Rattle.rb_import_json.specs.Advice.{field_error_advice}
-use Rattle.rb_import_json.specs.Names.{flaw_text}
 use Rattle.rb_messages.specs.declared.error.MessageError.{MessageError}
-use Rattle.rb_messages.specs.declared.error.MessageError.TheVariants.{Answers, MissingHeader, OtherHeader, MissingSet, Flawed, MissingVotes, NoMemory}
+use Rattle.rb_messages.specs.declared.error.MessageError.TheVariants.{Answers, MissingHeader, OtherHeader, MissingSet, MissingVotes, NoMemory}
 
 -- a chain and one of its heights
 abbrev pub place_text : List ℕ → ℕ → List ℕ
@@ -25,7 +23,6 @@ message_error_text (MissingSet chain height) =
     codes "refused MissingSet at " ++ place_text chain.now height
     ++ codes "\nno answers have the next validators of this height; fetch all pages of /validators?per_page=100 of the height after it"
     ++ codes " into files *.json of the folder " ++ chain.now
-message_error_text (Flawed file flaw) = codes "refused " ++ flaw_text flaw ++ codes "\n" ++ file.now ++ codes ": " ++ field_error_advice flaw.name
 message_error_text (MissingVotes chain height file validator) =
     codes "refused MissingVotes at " ++ place_text chain.now height
     ++ codes "\n" ++ file.now ++ codes ": the update needs the vote of the validator " ++ hexadecimal validator

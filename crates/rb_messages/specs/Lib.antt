@@ -1,5 +1,7 @@
 pub mod Names
-pub mod Sources
 pub mod Votes
+pub mod SignedTexts
+pub mod MessageTexts
+pub mod Sources
 pub mod Messages
 pub mod Errors

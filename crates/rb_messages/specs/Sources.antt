@@ -1,10 +1,8 @@
 -- What a message is made of, and why it isn't made.
-use Rattle.std.specs.Prelude.{◌≡◌, ◌<◌, ⊤, ℕ, ℤ, List, [], ◌==◌, ◌++◌, Bool, All, Contains, length, position, Option, Result, Err, IfSome, IsSomeAnd, MatchOption, Ok, Some, option_and_then, option_map, slice_get, slice_index_or}
+use Rattle.std.specs.Prelude.{◌≡◌, ◌<◌, ⊤, ℕ, List, [], ◌==◌, ◌++◌, All, Contains, length, Option, IfSome, IsSomeAnd, MatchOption, Some, option_map, slice_get, slice_index_or, Vec}
 use Rattle.std.specs.List.{AllZip, enumerate_from, find}
-use Rattle.std.specs.Str.{bytes_eq}
-use Rattle.jiff_core.specs.declared.civil.datetime.DateTime.{DateTime}
+use Rattle.std.specs.Global.{Global}
 use Rattle.rb_book.specs.Header.{Record}
-use Rattle.rb_import_answers.specs.Answers.{whole}
 use Rattle.rb_import_answers.specs.declared.commit.SignedHeader.{SignedHeader}
 use Rattle.rb_import_check.specs.Chains.{AreOfFiles, HaveHeaders, HaveSets, IsOfChain, IsOfItsBlock, filed_of, headers_of}
 use Rattle.rb_import_check.specs.Errors.{IsToldOf}
@@ -14,34 +12,29 @@ use Rattle.rb_import_check.specs.declared.chain.Commit.{Commit}
 use Rattle.rb_import_check.specs.declared.chain.SeenChain.{SeenChain}
 use Rattle.rb_import_check.specs.declared.signed.Signatures.{Signatures}
 use Rattle.rb_import_check.specs.Signed.{IsSigned}
-use Rattle.rb_import_json.specs.FieldErrors.{◌>>=◌, or_flaw}
-use Rattle.rb_import_json.specs.declared.error.FieldError.{FieldError}
-use Rattle.rb_import_json.specs.declared.error.FieldErrorName.TheVariants.{NotJson}
-use Rattle.rb_message_text.specs.Signed.{SignedHeader as Signed, in_nanos, signed_of_bytes}
 use Rattle.rb_step.specs.Sent.{sent_view}
 use Rattle.rb_messages.specs.Votes.{missing_vote}
-use Rattle.rb_messages.specs.declared.answers.ChainAnswers.{ChainAnswers}
 use Rattle.rb_messages.specs.declared.error.MessageError.{MessageError}
-use Rattle.rb_messages.specs.declared.error.MessageError.TheVariants.{Answers, MissingHeader, OtherHeader, MissingSet, Flawed, MissingVotes, NoMemory}
+use Rattle.rb_messages.specs.declared.error.MessageError.TheVariants.{Answers, MissingHeader, OtherHeader, MissingSet, MissingVotes, NoMemory}
 use Rattle.rb_messages.specs.declared.update.PlannedUpdate.{PlannedUpdate}
 
 -- what was seen is what the answers on a chain tell: their headers, each with its file, and the sets of their validators. The headers of which
 -- messages are made are of the chain with this identifier, have the hashes of the blocks that their commits are for, and more than two thirds of
 -- their own set signed them
-unfoldable pub Tells : List ℕ → ChainAnswers → SeenChain → Type 0
+unfoldable pub Tells : List ℕ → List Saved → SeenChain → Type 0
 Tells id answers seen =
-    HaveHeaders (headers_of answers.saved.items) (seen.commits.items ++ seen.bare.items ++ seen.unsigned.items)
-    × AreOfFiles (filed_of answers.saved.items) (seen.commits.items ++ seen.bare.items ++ seen.unsigned.items)
+    HaveHeaders (headers_of answers) (seen.commits.items ++ seen.bare.items ++ seen.unsigned.items)
+    × AreOfFiles (filed_of answers) (seen.commits.items ++ seen.bare.items ++ seen.unsigned.items)
     × All (IsOfChain id) seen.commits.items
     × All IsOfItsBlock seen.commits.items
     × All (IsSigned Signatures.AsGiven seen.sets.sets.items) seen.commits.items
-    × HaveSets answers.saved.items seen.sets.sets.items
+    × HaveSets answers seen.sets.sets.items
 
-abbrev pub TellsAt : List (List ℕ) → ℕ × ChainAnswers → SeenChain → Type 0
-TellsAt chains p seen = Tells (slice_index_or chains p.0 []) p.1 seen
+abbrev pub TellsAt : List (List ℕ) → ℕ × Vec Saved Global → SeenChain → Type 0
+TellsAt chains p seen = Tells (slice_index_or chains p.0 []) p.1.items seen
 
 -- so it is of each chain, by its place
-abbrev pub AreTold : List (List ℕ) → List ChainAnswers → List SeenChain → Type 0
+abbrev pub AreTold : List (List ℕ) → List (Vec Saved Global) → List SeenChain → Type 0
 AreTold chains answers seen = AllZip (TellsAt chains) (enumerate_from 0 answers) seen
 
 -- the commit of a height, among those that more than two thirds of their own set signed
@@ -58,22 +51,6 @@ pub record IsOfRecord (h : SignedHeader) (r : Record) : Type 0 where
 abbrev pub IsHeaderOf : PlannedUpdate → SignedHeader → Type 0
 IsHeaderOf u h = IsSomeAnd u.own_record (IsOfRecord h)
 
-abbrev pub has_digest : List ℕ → Saved → Bool
-has_digest digest s = bytes_eq s.digest digest
-
-abbrev pub content_at : ChainAnswers → ℕ → Option (List ℕ)
-content_at answers place = option_map (λ c. c.items) (slice_get answers.contents.items place)
-
--- the content of the first file with this SHA-256
-unfoldable pub content_of : ChainAnswers → List ℕ → Option (List ℕ)
-content_of answers digest = option_and_then (content_at answers) (position (has_digest digest) answers.saved.items)
-
--- the signed header that the file with this SHA-256 has; a file that isn't among the answers is no JSON
-unfoldable pub signed_from : Option ChainAnswers → List ℕ → Result (Signed ℤ) FieldError
-signed_from answers digest = do
-  bytes ← or_flaw (whole NotJson) (option_and_then (λ a. content_of a digest) answers)
-  signed_of_bytes bytes
-
 -- ---- why no message of an update is made
 
 -- there is no commit of the height that more than two thirds of its own set signed, or not its set
@@ -88,37 +65,29 @@ HasOtherHeader seen u file = IsSomeAnd (commit_at seen u.height) (λ c. (file �
 abbrev pub LacksTrustedSet : SeenChain → PlannedUpdate → Type 0
 LacksTrustedSet seen u = IfSome u.trusted_record (λ r. ¬ WasSeen seen.sets.sets.items r.next)
 
--- the signed header in the file of the height's commit has this flaw
-abbrev pub HasFlaw : SeenChain → Option ChainAnswers → PlannedUpdate → List ℕ → FieldError → Type 0
-HasFlaw seen answers u file flaw = IsSomeAnd (commit_at seen u.height) (λ c. (file ≡ c.file.now) × (signed_from answers c.digest ≡ Err flaw))
-
--- the signed header in this file, which is that of the height's commit, lacks votes that the update needs: the first of them is this validator's
-abbrev pub LacksVotes : SeenChain → Option ChainAnswers → PlannedUpdate → List ℕ → List ℕ → Type 0
-LacksVotes seen answers u file validator =
+-- the height's commit, in this file, lacks votes that the update needs: the first of them is this validator's
+abbrev pub LacksVotes : SeenChain → PlannedUpdate → List ℕ → List ℕ → Type 0
+LacksVotes seen u file validator =
     IsSomeAnd (commit_at seen u.height) (λ c.
-    (file ≡ c.file.now)
-    × (signed : Signed DateTime) × (signed_from answers c.digest ≡ Ok (in_nanos signed))
-    × (missing_vote signed.commit (option_map sent_view u.votes) ≡ Some validator))
+    (file ≡ c.file.now) × (missing_vote c.header.now.votes.items (option_map sent_view u.votes) ≡ Some validator))
 
--- the error is why no message of an update is made of what was seen of its chain, and of the answers on it
-abbrev pub IsRefusedFor : List ℕ → SeenChain → Option ChainAnswers → PlannedUpdate → MessageError → Type 0
-IsRefusedFor id seen answers u (MissingHeader chain height) = (chain.now ≡ id) × (height ≡ u.height) × LacksHeader seen u.height
-IsRefusedFor id seen answers u (OtherHeader chain height file) = (chain.now ≡ id) × (height ≡ u.height) × HasOtherHeader seen u file.now
-IsRefusedFor id seen answers u (MissingSet chain height) = (chain.now ≡ id) × (height ≡ u.trusted) × LacksTrustedSet seen u
-IsRefusedFor id seen answers u (Flawed file flaw) = HasFlaw seen answers u file.now flaw
-IsRefusedFor id seen answers u (MissingVotes chain height file validator) =
-    (chain.now ≡ id) × (height ≡ u.height) × LacksVotes seen answers u file.now validator
-IsRefusedFor id seen answers u (Answers e) = ⊥
-IsRefusedFor id seen answers u NoMemory = ⊤
+-- the error is why no message of an update is made of what was seen of its chain
+abbrev pub IsRefusedFor : List ℕ → SeenChain → PlannedUpdate → MessageError → Type 0
+IsRefusedFor id seen u (MissingHeader chain height) = (chain.now ≡ id) × (height ≡ u.height) × LacksHeader seen u.height
+IsRefusedFor id seen u (OtherHeader chain height file) = (chain.now ≡ id) × (height ≡ u.height) × HasOtherHeader seen u file.now
+IsRefusedFor id seen u (MissingSet chain height) = (chain.now ≡ id) × (height ≡ u.trusted) × LacksTrustedSet seen u
+IsRefusedFor id seen u (MissingVotes chain height file validator) =
+    (chain.now ≡ id) × (height ≡ u.height) × LacksVotes seen u file.now validator
+IsRefusedFor id seen u (Answers e) = ⊥
+IsRefusedFor id seen u NoMemory = ⊤
 
 -- so it is of the chain at the update's place
-abbrev pub IsRefusedAt : List (List ℕ) → List SeenChain → List ChainAnswers → PlannedUpdate → MessageError → Type 0
-IsRefusedAt chains seen answers u e =
-    MatchOption (slice_get seen u.chain) ⊤ (λ s. IsRefusedFor (slice_index_or chains u.chain []) s (slice_get answers u.chain) u e)
+abbrev pub IsRefusedAt : List (List ℕ) → List SeenChain → PlannedUpdate → MessageError → Type 0
+IsRefusedAt chains seen u e = MatchOption (slice_get seen u.chain) ⊤ (λ s. IsRefusedFor (slice_index_or chains u.chain []) s u e)
 
 -- and so it is of one of the updates
-abbrev pub IsRefusedAmong : List (List ℕ) → List SeenChain → List ChainAnswers → List PlannedUpdate → MessageError → Type 0
-IsRefusedAmong chains seen answers updates e = (u : PlannedUpdate) × Contains updates u × IsRefusedAt chains seen answers u e
+abbrev pub IsRefusedAmong : List (List ℕ) → List SeenChain → List PlannedUpdate → MessageError → Type 0
+IsRefusedAmong chains seen updates e = (u : PlannedUpdate) × Contains updates u × IsRefusedAt chains seen u e
 
 -- ---- why answers aren't taken
 
@@ -127,11 +96,10 @@ abbrev pub IsRefusedOn : List ℕ → MessageError → Type 0
 IsRefusedOn id (MissingHeader chain height) = ⊥
 IsRefusedOn id (OtherHeader chain height file) = ⊥
 IsRefusedOn id (MissingSet chain height) = ⊥
-IsRefusedOn id (Flawed file flaw) = ⊥
 IsRefusedOn id (MissingVotes chain height file validator) = ⊥
 IsRefusedOn id (Answers e) = IsToldOf id e
 IsRefusedOn id NoMemory = ⊤
 
 -- so it does of one of the chains with answers, by its place
-abbrev pub AreRefused : List (List ℕ) → List ChainAnswers → MessageError → Type 0
+abbrev pub AreRefused : List (List ℕ) → List (Vec Saved Global) → MessageError → Type 0
 AreRefused chains answers e = (place : ℕ) × (place < length answers) × IsRefusedOn (slice_index_or chains place []) e

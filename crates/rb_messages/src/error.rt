@@ -1,7 +1,6 @@
 //! Why a message isn't made.
 use rb_base::Height;
 use rb_import_check::{Hexadecimal, ImportError};
-use rb_import_json::FieldError;
 use std::alloc::{AllocError, AllocFailed};
 use std::fmt;
 
@@ -25,11 +24,6 @@ pub enum MessageError<'a> {
     MissingSet {
         chain: &'a str,
         height: Height,
-    },
-    /// What is read for a message alone has a flaw.
-    Flawed {
-        file: &'a str,
-        flaw: FieldError,
     },
     /// The header's commit lacks votes that the update needs; the first of them is this validator's.
     MissingVotes {
@@ -67,10 +61,6 @@ impl fmt::Display for MessageError<'_> {
                 f,
                 "refused MissingSet at {chain} {height}\nno answers have the next validators of this height; fetch all pages of /validators?per_page=100 of the height after it into files *.json of the folder {chain}"
             ),
-            MessageError::Flawed { file, flaw } => {
-                let advice = flaw.name.advice();
-                write!(f, "refused {flaw}\n{file}: {advice}")
-            }
             MessageError::MissingVotes {
                 chain,
                 height,

@@ -2,14 +2,17 @@
 //! writes them.
 #![tactic(auto)]
 
-mod answers;
+mod client_message;
+mod commit;
 mod error;
+mod header;
 mod message;
 mod source;
+mod text;
 mod update;
+mod validators;
 mod votes;
 
-pub use answers::ChainAnswers;
 pub use error::MessageError;
 pub use message::{MessageFile, message_files};
 pub use source::{id_of, seen_chains};

@@ -1,21 +1,18 @@
 //! Client messages (ICS 7, `Header`).
 ghost use Rattle.std.specs.Prelude.{◌≡◌, map, IfOk, IfErr, string_bytes};
 ghost use Rattle.std.specs.List.{enumerate_from};
-ghost use Rattle.std.specs.Option.{option_copied};
 ghost use Rattle.rb_messages.specs.Messages.{AreFilesOf, IsFileOf, IsMessageOf};
 ghost use Rattle.rb_messages.specs.Sources.{IsRefusedAmong, IsRefusedAt, IsRefusedFor};
 ghost use Rattle.rb_messages.specs.Names.{file_name};
 
-use crate::answers::ChainAnswers;
+use crate::client_message::message_text;
 use crate::error::MessageError;
-use crate::source::{commit_of, id_of, own_set, signed_in_file, trusted_set};
+use crate::source::{commit_of, id_of, own_set, trusted_set};
 use crate::update::{PlannedUpdate, file_name};
 use crate::votes::missing_vote;
 use rb_base::ChainId;
 use rb_import_answers::revision_of;
 use rb_import_check::SeenChain;
-use rb_import_json::AnswerError;
-use rb_message_text::message_text;
 use std::alloc::Global;
 
 /// The name and the content of a message's file.
@@ -25,10 +22,10 @@ pub struct MessageFile {
     pub text: String,
 }
 
-/// The files of the messages of updates, in their order, by what the answers on each chain tell, and by the answers.
+/// The files of the messages of updates, in their order, by what the answers on each chain tell.
 ///
 /// The first update without a message refuses all. Of its errors the first of these comes: MissingHeader, OtherHeader,
-/// MissingHeader for want of the header's set, MissingSet, Flawed, MissingVotes. The last is of an update that carries only
+/// MissingHeader for want of the header's set, MissingSet, MissingVotes. The last is of an update that carries only
 /// the votes that it needs. An update that carries all votes has those of the commit in the answers, which may be others
 /// than the planner counted: more than two thirds of the header's own set, as `seen_chains` says; whether they are enough
 /// of the trusted set isn't judged.
@@ -37,16 +34,15 @@ pub fn message_files<'a>(
     alloc: Global,
     chains: &'a [ChainId],
     seen: &[SeenChain<'a>],
-    answers: &[ChainAnswers],
     updates: &[PlannedUpdate],
 ) -> Result<Vec<MessageFile>, MessageError<'a>>
     ensures names { IfOk result (λ files. map (λ f. string_bytes f.name) files.items ≡ map (λ p. file_name p.0 p.1) (enumerate_from 0 updates.now)) }
-    ensures messages { IfOk result (λ files. AreFilesOf chains.entry.now seen.now answers.now updates.now files.items) }
-    ensures refused { IfErr result (IsRefusedAmong chains.entry.now seen.now answers.now updates.now) }
+    ensures messages { IfOk result (λ files. AreFilesOf chains.entry.now seen.now updates.now files.items) }
+    ensures refused { IfErr result (IsRefusedAmong chains.entry.now seen.now updates.now) }
 {
     let mut files = Vec::new(alloc);
     for (place, update) in updates.iter().enumerate() {
-        match file_of(alloc, chains, seen, answers, place, update) {
+        match file_of(alloc, chains, seen, place, update) {
             Ok(file) => files.push(file)?,
             Err(error) => return Err(error),
         }
@@ -59,13 +55,12 @@ fn file_of<'a>(
     alloc: Global,
     chains: &'a [ChainId],
     seen: &[SeenChain<'a>],
-    answers: &[ChainAnswers],
     place: usize,
     update: &PlannedUpdate,
 ) -> Result<MessageFile, MessageError<'a>>
     ensures name { IfOk result (λ file. string_bytes file.name ≡ file_name place update.now) }
-    ensures message { IfOk result (IsFileOf chains.entry.now seen.now answers.now update.now) }
-    ensures refused { IfErr result (IsRefusedAt chains.entry.now seen.now answers.now update.now) }
+    ensures message { IfOk result (IsFileOf chains.entry.now seen.now update.now) }
+    ensures refused { IfErr result (IsRefusedAt chains.entry.now seen.now update.now) }
 {
     let name = file_name(alloc, place, update)?;
     let chain = id_of(chains, update.chain);
@@ -73,8 +68,7 @@ fn file_of<'a>(
     let Some(seen) = seen.get(update.chain) else {
         return Err(MessageError::MissingHeader { chain, height });
     };
-    let answers = answers.get(update.chain);
-    match message_of(alloc, chain, seen, answers, update) {
+    match message_of(alloc, chain, seen, update) {
         Ok(text) => Ok(MessageFile { name, text }),
         Err(error) => Err(error),
     }
@@ -85,11 +79,10 @@ fn message_of<'a>(
     alloc: Global,
     chain: &'a str,
     seen: &SeenChain<'a>,
-    answers: Option<&ChainAnswers>,
     update: &PlannedUpdate,
 ) -> Result<String, MessageError<'a>>
-    ensures message { IfOk result (λ text. IsMessageOf chain.entry.now seen.now (option_copied answers.entry) update.now (string_bytes text)) }
-    ensures refused { IfErr result (IsRefusedFor chain.entry.now seen.now (option_copied answers.entry) update.now) }
+    ensures message { IfOk result (λ text. IsMessageOf chain.entry.now seen.now update.now (string_bytes text)) }
+    ensures refused { IfErr result (IsRefusedFor chain.entry.now seen.now update.now) }
 {
     let commit = match commit_of(chain, seen, update) {
         Ok(commit) => commit,
@@ -103,16 +96,9 @@ fn message_of<'a>(
         Ok(set) => set,
         Err(error) => return Err(error),
     };
-    let signed = match signed_in_file(alloc, answers, &commit) {
-        Ok(signed) => signed,
-        Err(AnswerError::Invalid(flaw)) => {
-            let file = commit.file;
-            return Err(MessageError::Flawed { file, flaw });
-        }
-        Err(AnswerError::NoMemory) => return Err(MessageError::NoMemory),
-    };
+    let signed = commit.header;
     let votes = &update.votes;
-    match missing_vote(votes, &signed.commit) {
+    match missing_vote(votes, signed.votes.as_slice()) {
         None => {}
         Some(validator) => {
             let height = update.height;
@@ -126,14 +112,6 @@ fn message_of<'a>(
         }
     }
     let revision = revision_of(chain);
-    let text = message_text(
-        alloc,
-        votes,
-        &signed,
-        own,
-        revision,
-        update.trusted,
-        trusted,
-    )?;
+    let text = message_text(alloc, votes, signed, own, revision, update.trusted, trusted)?;
     Ok(text)
 }

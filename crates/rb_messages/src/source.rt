@@ -1,23 +1,16 @@
 //! What messages on a chain are made of.
-ghost use Rattle.std.specs.Prelude.{◌≡◌, ◌==◌, [], slice_index_or, ◌↔◌, Option, Some, IfOk, IfErr, IfSome, IsSome, IsSomeAnd, IsTrue};
+ghost use Rattle.std.specs.Prelude.{◌≡◌, ◌==◌, [], slice_index_or, ◌↔◌, Some, IfOk, IfErr, IfSome, IsSome, IsSomeAnd, IsTrue};
 ghost use Rattle.std.specs.Option.{option_copied};
 ghost use Rattle.rb_valset.specs.ValidatorSet.{set_hash};
 ghost use Rattle.rb_import_check.specs.Sets.{WasSeen};
-ghost use Rattle.rb_import_json.specs.FieldErrors.{Gives};
-ghost use Rattle.rb_message_text.specs.Signed.{in_nanos};
-ghost use Rattle.rb_messages.specs.Sources.{AreRefused, AreTold, IsHeaderOf, IsOfRecord, IsRefusedFor, IsRefusedOn, Tells, commit_at, signed_from};
-ghost use Rattle.rb_message_text.specs.Views.{signed_view};
-ghost use Rattle.rb_messages.specs.declared.answers.ChainAnswers.{ChainAnswers};
+ghost use Rattle.rb_messages.specs.Sources.{AreRefused, AreTold, IsHeaderOf, IsOfRecord, IsRefusedFor, IsRefusedOn, Tells, commit_at};
 
-use crate::answers::ChainAnswers;
 use crate::error::MessageError;
 use crate::update::PlannedUpdate;
 use rb_base::{ChainId, Height};
 use rb_book::Record;
 use rb_import_answers::SignedHeader;
-use rb_import_check::{Commit, ImportError, SeenChain, Signatures, seen_chain};
-use rb_import_json::AnswerError;
-use rb_message_text::{Signed, not_json, read_signed};
+use rb_import_check::{Commit, ImportError, Saved, SeenChain, Signatures, seen_chain};
 use rb_valset::ValidatorSet;
 use std::alloc::Global;
 
@@ -26,14 +19,14 @@ use std::alloc::Global;
 pub fn seen_chains<'a>(
     alloc: Global,
     chains: &'a [ChainId],
-    answers: &'a [ChainAnswers],
+    answers: &'a [Vec<Saved>],
 ) -> Result<Vec<SeenChain<'a>>, MessageError<'a>>
     ensures told { IfOk result (λ seen. AreTold chains.entry.now answers.entry.now seen.items) }
     ensures refused { IfErr result (AreRefused chains.entry.now answers.entry.now) }
 {
     let mut seen = Vec::new(alloc);
     for (place, answers) in answers.iter().enumerate() {
-        match seen_on(alloc, id_of(chains, place), answers) {
+        match seen_on(alloc, id_of(chains, place), answers.as_slice()) {
             Ok(one) => seen.push(one)?,
             Err(error) => return Err(error),
         }
@@ -46,12 +39,12 @@ pub fn seen_chains<'a>(
 fn seen_on<'a>(
     alloc: Global,
     chain: &'a str,
-    answers: &'a ChainAnswers,
+    answers: &'a [Saved],
 ) -> Result<SeenChain<'a>, MessageError<'a>>
     ensures told { IfOk result (Tells chain.entry.now answers.entry.now) }
     ensures refused { IfErr result (IsRefusedOn chain.entry.now) }
 {
-    match seen_chain(alloc, chain, Signatures::AsGiven, answers.saved.as_slice()) {
+    match seen_chain(alloc, chain, Signatures::AsGiven, answers) {
         Ok(seen) => Ok(seen),
         Err(ImportError::NoMemory) => Err(MessageError::NoMemory),
         Err(error) => Err(MessageError::Answers(error)),
@@ -76,7 +69,7 @@ pub(crate) fn commit_of<'a>(
 ) -> Result<Commit<'a>, MessageError<'a>>
     ensures commit { IfOk result (λ commit. commit_at seen.now update.now.height ≡ Some commit) }
     ensures header { IfOk result (λ commit. IsHeaderOf update.now commit.header.now) }
-    ensures refused { IfErr result (λ e. (answers : Option ChainAnswers) → IsRefusedFor chain.entry.now seen.now answers update.now e) }
+    ensures refused { IfErr result (IsRefusedFor chain.entry.now seen.now update.now) }
 {
     let height = update.height;
     let Some(commit) = commit_at(seen, height) else {
@@ -136,7 +129,7 @@ pub(crate) fn own_set<'a, 's>(
 ) -> Result<&'s ValidatorSet, MessageError<'a>>
     requires { commit_at seen.now update.now.height ≡ Some commit.now }
     ensures set { IfOk result (λ set. set_hash set.now ≡ commit.now.header.now.set) }
-    ensures refused { IfErr result (λ e. (answers : Option ChainAnswers) → IsRefusedFor chain.entry.now seen.entry.now answers update.now e) }
+    ensures refused { IfErr result (IsRefusedFor chain.entry.now seen.entry.now update.now) }
 {
     let height = update.height;
     match set_of(seen, &commit.header.set) {
@@ -152,7 +145,7 @@ pub(crate) fn trusted_set<'a, 's>(
     update: &PlannedUpdate,
 ) -> Result<&'s ValidatorSet, MessageError<'a>>
     ensures set { IfOk result (λ set. IsSomeAnd update.now.trusted_record (λ r. set_hash set.now ≡ r.next)) }
-    ensures refused { IfErr result (λ e. (answers : Option ChainAnswers) → IsRefusedFor chain.entry.now seen.entry.now answers update.now e) }
+    ensures refused { IfErr result (IsRefusedFor chain.entry.now seen.entry.now update.now) }
 {
     let height = update.trusted;
     let Some(record) = &update.trusted_record else {
@@ -173,22 +166,4 @@ fn set_of<'s>(seen: &'s SeenChain<'_>, hash: &[u8; 32]) -> Option<&'s ValidatorS
         Some(one) => Some(&one.set),
         None => None,
     }
-}
-
-/// The signed header in the file of a commit.
-#[tactic(auto, unfolding(crate::specs::Sources::signed_from))]
-pub(crate) fn signed_in_file(
-    alloc: Global,
-    answers: Option<&ChainAnswers>,
-    commit: &Commit<'_>,
-) -> Result<Signed, AnswerError>
-    ensures { Gives (λ s. in_nanos (signed_view s)) result (signed_from (option_copied answers.entry) commit.now.digest) }
-{
-    let Some(answers) = answers else {
-        return Err(not_json());
-    };
-    let Some(content) = answers.content_of(&commit.digest) else {
-        return Err(not_json());
-    };
-    read_signed(alloc, content)
 }

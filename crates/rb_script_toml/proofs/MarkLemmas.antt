@@ -1,5 +1,5 @@
 -- A count of marks, byte by byte.
-use Rattle.std.proofs.Common.{◌≡◌, ◌<◌, ◌≤◌, ◌+◌, ◌==◌, ℕ, List, length, drop, slice_index_or, true, false, Bool, arith, if◌then◌else◌}
+use Rattle.std.proofs.Common.{◌≡◌, ◌<◌, ◌≤◌, ◌+◌, ◌==◌, ℕ, List, length, drop, slice_index_or, true, false, Bool, arith, if◌then◌else◌, ap, ◌∙◌}
 use Rattle.std.proofs.lemmas.List.{at_drop_more, at_drop_all}
 use Rattle.rb_script_toml.specs.declared.marks.Place.{Place}
 use Rattle.rb_script_toml.specs.Marks.{after, counted, may_open, marks_from}
@@ -27,6 +27,16 @@ pub next_mark : (p : Place) (n : ℕ) (text : List ℕ) → n < length text
     → marks_from p (drop n text) ≡ counted (after p (slice_index_or text n 0)) (slice_index_or text n 0) + marks_from (after p (slice_index_or text n 0)) (drop (n + 1) text)
 unfolding marks_from
 next_mark p n text h = at_drop_more (marks_from p) text n 0 h
+
+-- a byte that is no mark, and behind which the place is as before it
+pub plain_byte : (p : Place) (n : ℕ) (text : List ℕ) → n < length text
+    → (after p (slice_index_or text n 0) ≡ p) × (counted p (slice_index_or text n 0) ≡ 0)
+    → marks_from p (drop n text) ≡ marks_from p (drop (n + 1) text)
+plain_byte p n text h plain =
+    let byte = slice_index_or text n 0 in
+    let next = next_mark p n text h ∙ ap (λ q. counted q byte + marks_from q (drop (n + 1) text)) plain.0 in
+    let none = plain.1 in
+    omega (arith, next, none)
 
 pub no_mark : (p : Place) (n : ℕ) (text : List ℕ) → length text ≤ n → marks_from p (drop n text) ≡ 0
 unfolding marks_from

@@ -5,6 +5,7 @@ ghost use Rattle.rb_script_toml.specs.Faults.{IsFault};
 ghost use Rattle.rb_script_toml.specs.KeyPaths.{child, element, below, place_path, shown, shown_key, is_active};
 
 use crate::fault::{Fault, FaultName, RunError};
+use itoa::Buffer;
 use std::alloc::{AllocError, Global};
 
 /// The most bytes of a key that a path shows.
@@ -68,11 +69,17 @@ pub fn child_path(alloc: Global, table: &str, key: &str) -> Result<String, Alloc
     }
 }
 
-/// The path of an element of an array.
+/// The path of an element of an array. Each event asks for one, so it is made without a format.
 pub fn element_path(alloc: Global, array: &str, index: usize) -> Result<String, AllocError>
     ensures { IfOk result (λ text. string_bytes text ≡ element array.now index) }
 {
-    format!(in alloc; "{array}[{index}]")
+    let mut digits = Buffer::new();
+    let mut path = String::with_capacity(alloc, 32)?;
+    path.push_str(array)?;
+    path.push_str("[")?;
+    path.push_str(digits.format(index))?;
+    path.push_str("]")?;
+    Ok(path)
 }
 
 /// A key as a path shows it, so that a path is one line of no great length: quotes stand for an empty key,

@@ -1,5 +1,5 @@
 //! The bytes of a text that take memory when it is parsed.
-ghost use Rattle.std.specs.Prelude.{◌≡◌};
+ghost use Rattle.std.specs.Prelude.{◌≡◌, IsTrue};
 ghost use Rattle.rb_script_toml.specs.Marks.{after, after_outside, after_line, after_lines, may_open, counted, marks};
 
 /// The most marks of a text.
@@ -102,6 +102,17 @@ fn counted(place: Place, byte: u8) -> u128
     }
 }
 
+/// Whether the byte behind one at `place` stands where that one does, and is no mark: most bytes of a text do.
+fn is_plain(place: Place, byte: u8) -> bool
+    ensures { IsTrue result → (after place byte ≡ place) × (counted place byte ≡ 0) }
+{
+    match place {
+        Place::Outside => !matches!(byte, b'"' | b'#' | b'\'' | b'.' | b'=' | b'[' | b'{'),
+        Place::Line(quote) => byte != quote && byte != b'\\',
+        _ => false,
+    }
+}
+
 /// The marks of a text, by which the memory that it takes is bounded: outside strings and comments `{`, `[` and `.` are
 /// eight each, since each may open a table or an array, and `=` is one, since eight keys take as much as a table.
 pub fn count_marks(bytes: &[u8]) -> u128
@@ -110,8 +121,10 @@ pub fn count_marks(bytes: &[u8]) -> u128
     let mut place = Place::Outside;
     let mut count = 0;
     for byte in bytes {
-        place = after(place, *byte);
-        count += counted(place, *byte);
+        if !is_plain(place, *byte) {
+            place = after(place, *byte);
+            count += counted(place, *byte);
+        }
     }
     count
 }

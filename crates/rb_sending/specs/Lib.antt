@@ -1,1 +1,3 @@
 pub mod Updates
+pub mod Batches
+pub mod Transactions

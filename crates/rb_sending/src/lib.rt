@@ -1,8 +1,13 @@
-//! The updates that a script's last turn sends, and the shell file that sends their messages.
+//! The updates and the batches that a script's last turn sends, their transactions, and the shell file that sends these, or
+//! the messages of the updates.
 #![tactic(auto)]
 
+mod batch;
 mod planned;
 mod shell;
+mod transactions;
 
+pub use batch::{PlannedBatch, planned_batches};
 pub use planned::planned_updates;
-pub use shell::shell_of;
+pub use shell::{shell_of, transactions_shell_of};
+pub use transactions::{TransactionFile, sender_to, transaction_files};

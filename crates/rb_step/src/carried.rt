@@ -315,6 +315,33 @@ fn put_rest<A: Allocator + Copy, const N: usize>(
     }
 }
 
+/// The header's commit voters.
+fn listed_voters<A: Allocator + Copy>(
+    alloc: A,
+    next: Option<&ValidatorSet<A>>,
+    header: &Header<A>,
+    own: &ValidatorSet<A>,
+) -> Result<Vec<Voter, A>, AllocError>
+    requires { IsSignedBy header.now own.now }
+    ensures voters { IfOk result (λ voters. voters.items ≡ voters_of (option_copied next.entry) header.now own.now) }
+    ensures places { IfOk result (λ voters. StandByPlace voters.items) }
+{
+    let votes = header.votes();
+    let members = own.members();
+    let mut voters = Vec::with_capacity(alloc, members.len())?;
+    for place in 0..members.len() {
+        let member = &members[place];
+        if votes[place].is_commit() {
+            voters.push(Voter {
+                place,
+                own: member.power(),
+                trusted: power_in(next, member, place),
+            })?;
+        }
+    }
+    Ok(voters)
+}
+
 /// The voters whose votes an update carries that carries what is needed, by their places.
 pub(crate) fn needed_voters<A: Allocator + Copy>(
     alloc: A,
@@ -328,8 +355,6 @@ pub(crate) fn needed_voters<A: Allocator + Copy>(
     ensures { IfOk result (λ voters. voters.items ≡ needed_voters options.now trusted_height (option_copied next.entry) header.now own.now) }
 {
     let needed = needed_of(options, trusted_height, next, header, own);
-    prove!(own.size() <= MAX_MEMBERS);
-    let mut voters: ArrayVec<Voter, MAX_MEMBERS> = ArrayVec::new();
-    put_rest(&mut voters, 0, next, header, own);
-    sent_votes(alloc, voters.as_slice(), needed)
+    let voters = listed_voters(alloc, next, header, own)?;
+    sent_votes(alloc, &voters, needed)
 }

@@ -184,10 +184,15 @@ abbrev pub report_json : Version → List (List ℕ) → List (List ℕ) → Rep
 report_json version chains paths turns =
     object (codes "ibcplan" is number (format_of version) ∷ codes "turns" is array (map (turn_json version chains paths) turns) ∷ [])
 
+-- a turn as follow answers it, with its number from 1
+abbrev pub numbered_turn_json : ℕ → Version → List (List ℕ) → List (List ℕ) → TurnReport → Json
+numbered_turn_json n version chains paths t =
+    object (codes "turn" is number n ∷ codes "window_back" is boolean t.window_back ∷ turn_members version chains paths t)
+
 -- ---- lines
 
-abbrev pub turn_line : Version → List (List ℕ) → List (List ℕ) → TurnReport → List ℕ
-turn_line version chains paths t = json_text (turn_json version chains paths t) ++ codes "\n"
+abbrev pub numbered_turn_line : ℕ → Version → List (List ℕ) → List (List ℕ) → TurnReport → List ℕ
+numbered_turn_line n version chains paths t = json_text (numbered_turn_json n version chains paths t) ++ codes "\n"
 
 abbrev pub report_line : Version → List (List ℕ) → List (List ℕ) → Report → List ℕ
 report_line version chains paths turns = json_text (report_json version chains paths turns) ++ codes "\n"

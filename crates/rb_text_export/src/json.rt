@@ -1,12 +1,12 @@
 //! A report as JSON. Identifiers have no character that JSON escapes.
-ghost use Rattle.std.specs.Prelude.{◌≡◌, ◌++◌, [], map, slice_index_or, IfOk, OnOk, string_bytes};
+ghost use Rattle.std.specs.Prelude.{◌≡◌, ◌++◌, ◌∷◌, [], codes, map, slice_index_or, IfOk, OnOk, string_bytes};
 ghost use Rattle.std.specs.List.{flat_map};
 ghost use Rattle.std.specs.Option.{option_map};
 ghost use Rattle.rb_step.specs.Sent.{sent_view};
 ghost use Rattle.rb_super_turn.specs.Report.{batched, planned as outcome_planned};
 ghost use Rattle.rb_super_turn.specs.Views.{refused_view, priced_view, batch_view, sending_view, plan_view, planned_view, outcome_view, client_report_view, settlement_view, turn_report_view, report_view};
-ghost use Rattle.rb_text_export.specs.Json.{array, json_text, more_text};
-ghost use Rattle.rb_text_export.specs.ReportJson.{address_json, byte_digits, beyond_members, came_members, client_json, client_members, format_of, goal_json, host_json, if_refused, kind_name, label_json, labelled_members, left_members, message_json, next_members, outcome_members, plan_members, planned_word, reached_members, refusal_members, refused_json, report_json, report_line, sending_members, settled_members, settlement_json, total_json, transaction_json, turn_json, turn_line, turn_members, update_json, votes_members, windows_members};
+ghost use Rattle.rb_text_export.specs.Json.{array, boolean, json_text, more_text, ◌is◌};
+ghost use Rattle.rb_text_export.specs.ReportJson.{address_json, byte_digits, beyond_members, came_members, client_json, client_members, format_of, goal_json, host_json, if_refused, kind_name, label_json, labelled_members, left_members, message_json, next_members, outcome_members, plan_members, planned_word, reached_members, refusal_members, refused_json, report_json, report_line, sending_members, settled_members, settlement_json, total_json, transaction_json, numbered_turn_json, numbered_turn_line, turn_json, turn_members, update_json, votes_members, windows_members};
 
 use crate::members::{push_boolean, push_comma, push_name, push_number, push_string, push_text};
 use rb_base::{ChainId, Moment, PathId};
@@ -33,21 +33,53 @@ pub fn json_of(alloc: Global, report: &Report) -> Result<String, AllocError>
     Ok(text)
 }
 
-/// The report of a turn as one object of JSON, as it stands in that of the script, and a line feed. The
-/// identifiers of the chains and of the paths are by their places.
+/// The report of a turn as one object of JSON, as it stands in that of the script, behind its number, and a line feed.
+/// The identifiers of the chains and of the paths are by their places.
 pub fn json_of_turn(
     alloc: Global,
+    number: u64,
     version: Version,
     chains: &[ChainId],
     paths: &[PathId],
     turn: &TurnReport,
 ) -> Result<String, AllocError>
-    ensures json { IfOk result (λ text. string_bytes text ≡ turn_line version chains.now paths.now (turn_report_view turn.now)) }
+    ensures json { IfOk result (λ text. string_bytes text ≡ numbered_turn_line number version chains.now paths.now (turn_report_view turn.now)) }
 {
     let mut text = String::new(alloc);
-    push_turn(&mut text, version, chains, paths, turn)?;
+    push_numbered_turn(&mut text, number, version, chains, paths, turn)?;
     text.push_str("\n")?;
     Ok(text)
+}
+
+fn push_numbered_turn(
+    text: &mut String,
+    number: u64,
+    version: Version,
+    chains: &[ChainId],
+    paths: &[PathId],
+    turn: &TurnReport,
+) -> Result<(), AllocError>
+    ensures { OnOk result (string_bytes text.new ≡ string_bytes text.old ++ json_text (numbered_turn_json number version chains.now paths.now (turn_report_view turn.now))) }
+{
+    text.push_str("{")?;
+    push_number(text, false, "turn", number)?;
+    push_window_back(text, version, chains, paths, turn)?;
+    text.push_str("}")
+}
+
+/// Adds what stands behind a turn's number.
+fn push_window_back(
+    text: &mut String,
+    version: Version,
+    chains: &[ChainId],
+    paths: &[PathId],
+    turn: &TurnReport,
+) -> Result<(), AllocError>
+    ensures { OnOk result (string_bytes text.new
+        ≡ string_bytes text.old ++ more_text (codes "window_back" is boolean (turn_report_view turn.now).window_back ∷ turn_members version chains.now paths.now (turn_report_view turn.now))) }
+{
+    push_boolean(text, true, "window_back", turn.window_back)?;
+    push_turn_members(text, version, chains, paths, turn)
 }
 
 /// The number of the format: that of versions 1 and 2 is 1.

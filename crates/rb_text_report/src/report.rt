@@ -1,12 +1,14 @@
 //! The text of a turn's report.
-ghost use Rattle.std.specs.Prelude.{◌≡◌, ◌++◌, [], map, slice_index_or, OnOk, string_bytes};
+ghost use Rattle.std.specs.Prelude.{◌≡◌, ◌++◌, [], map, slice_index_or, OnOk, string_bytes, codes};
 ghost use Rattle.std.specs.List.{flat_map};
+ghost use Rattle.std.specs.Fmt.{decimal};
 ghost use Rattle.std.specs.Option.{option_map};
 ghost use Rattle.rb_super_turn.specs.Views.{refused_view, priced_view, sending_view, plan_view, planned_view, outcome_view, client_report_view, settlement_view, turn_report_view};
 ghost use Rattle.rb_step.specs.Sent.{sent_view};
 ghost use Rattle.rb_super_turn.specs.Report.{planned as outcome_planned};
 ghost use Rattle.rb_text_report.specs.Report.{refused_line, goal_line, label_line, update_line, votes_text, total_line, kind_name, message_line, left_line, beyond_line, beyond_text, batch_line, transaction_line, numbered_lines, sending_text, next_text, plan_text, outcome_text, client_text, settled_line, refusal_text, refused_settle_line, settlement_text, host_line, windows_text, head_text, turn_text};
 
+use itoa::Buffer;
 use rb_base::{ChainId, Height, Moment, PathId};
 use rb_batch::Transaction;
 use rb_moments::push_moment;
@@ -67,12 +69,25 @@ fn push_beyond(text: &mut String, beyond: Option<Goal>) -> Result<(), AllocError
     }
 }
 
+/// Adds a number in plain decimals, without the cost of a format.
+fn push_number(text: &mut String, number: u64) -> Result<(), AllocError>
+    ensures { OnOk result (string_bytes text.new ≡ string_bytes text.old ++ decimal number) }
+{
+    let mut buffer = Buffer::new();
+    text.push_str(buffer.format(number))
+}
+
 fn push_label(text: &mut String, label: &Label) -> Result<(), AllocError>
     ensures { OnOk result (string_bytes text.new ≡ string_bytes text.old ++ label_line label.now) }
 {
     let Label { height, cost } = *label;
-    let Cost { fee, count } = cost;
-    writeln!(text, "label {height} {fee} {count}")
+    text.push_str("label ")?;
+    push_number(text, height.get())?;
+    text.push_str(" ")?;
+    push_number(text, cost.fee)?;
+    text.push_str(" ")?;
+    push_number(text, cost.count)?;
+    text.push_str("\n")
 }
 
 fn push_labels(text: &mut String, labels: &[Label]) -> Result<(), AllocError>
@@ -131,7 +146,15 @@ fn push_transaction(
     ensures { OnOk result (string_bytes text.new ≡ string_bytes text.old ++ transaction_line number transaction.now) }
 {
     let Transaction { first, count, gas } = *transaction;
-    writeln!(text, "tx {number} first {first} count {count} gas {gas}")
+    text.push_str("tx ")?;
+    push_number(text, number as u64)?;
+    text.push_str(" first ")?;
+    push_number(text, first as u64)?;
+    text.push_str(" count ")?;
+    push_number(text, count as u64)?;
+    text.push_str(" gas ")?;
+    push_number(text, gas)?;
+    text.push_str("\n")
 }
 
 fn push_transactions(text: &mut String, transactions: &[Transaction]) -> Result<(), AllocError>
@@ -174,14 +197,14 @@ fn id_of(paths: &[PathId], path: usize) -> &str
     }
 }
 
-/// What a packet message is called.
-fn kind_name(kind: Kind) -> &'static str
-    ensures { result.now ≡ kind_name kind }
+/// What a message's line begins with.
+fn line_head(kind: Kind) -> &'static str
+    ensures { result.now ≡ kind_name kind ++ codes " " }
 {
     match kind {
-        Kind::Receive => "recv",
-        Kind::Acknowledge => "ack",
-        Kind::Timeout => "timeout",
+        Kind::Receive => "recv ",
+        Kind::Acknowledge => "ack ",
+        Kind::Timeout => "timeout ",
     }
 }
 
@@ -190,9 +213,12 @@ fn push_message(text: &mut String, paths: &[PathId], message: &Message) -> Resul
 {
     let id = id_of(paths, message.path());
     let packet = message.packet();
-    let kind = kind_name(packet.kind);
     let sequence = packet.sequence;
-    writeln!(text, "{kind} {id} {sequence}")
+    text.push_str(line_head(packet.kind))?;
+    text.push_str(id)?;
+    text.push_str(" ")?;
+    push_number(text, sequence.get())?;
+    text.push_str("\n")
 }
 
 fn push_messages(

@@ -10,7 +10,7 @@ use Rattle.rb_scan.specs.Laws.{SettledIsNotOwed}
 use Rattle.rb_scan.specs.Owed.{ready}
 use Rattle.rb_scan.specs.declared.message.PacketMsg.{PacketMsg}
 use Rattle.rb_script_types.specs.declared.config.PathConfig.{PathConfig}
-use Rattle.rb_plan_waiting.specs.Laws.{SeenIsFewest}
+use Rattle.rb_waiting_laws.specs.Seen.{SeenIsFewest}
 use Rattle.rb_plan_client.specs.Task.{PathTask, Task, Message, message_on, going_on, ready_on, ready_messages, near_reach, press_moment, press_moments_on, first_press, presses}
 use Rattle.rb_core_model.specs.Standing.{OpenBatch, ClientState, Standing, new_path, opening_standing}
 use Rattle.rb_core_model.proofs.Marks.{AllFound}

@@ -24,3 +24,6 @@ pub mod Idle
 pub mod Refreshed
 pub mod Viewed
 pub mod Alive
+pub mod Lists
+pub mod Caused
+pub mod Watched

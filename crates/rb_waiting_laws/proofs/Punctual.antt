@@ -8,8 +8,8 @@ use Rattle.std.proofs.lemmas.Option.{none-some, same_Some}
 use Rattle.rb_book.specs.Invariant.{IsBook}
 use Rattle.rb_book.specs.Laws.{StaysABook}
 use Rattle.rb_plan_client.specs.Task.{PathTask, Message, message_on, press_moment, presses}
-use Rattle.rb_plan_waiting.specs.Laws.{SeenIsFewest}
-use Rattle.rb_plan_waiting.specs.Seen.{is_pressed, SendsWherePressed}
+use Rattle.rb_waiting_laws.specs.Seen.{SeenIsFewest}
+use Rattle.rb_waiting_laws.specs.Seen.{is_pressed, SendsWherePressed}
 use Rattle.rb_scan.specs.declared.message.PacketMsg.{PacketMsg}
 use Rattle.rb_script_types.specs.Config.{Config}
 use Rattle.rb_core_model.specs.Standing.{Standing, opening_standing}

@@ -7,7 +7,7 @@ use Rattle.std.proofs.lemmas.Bool.{and_from, false≢true}
 use Rattle.std.proofs.lemmas.List.Elements.{All-weaker, All-map, All-filter, filter_passes}
 use Rattle.std.proofs.lemmas.List.FromFn.{length-range_with_len, get_or-range_with_len}
 use Rattle.std.proofs.lemmas.List.Kept.{IsStrictlyIncreasing-filter}
-use Rattle.rb_plan_waiting.specs.Seen.{Seen, is_pressed, IsGoneAfter, AreSendingTurns}
+use Rattle.rb_waiting_laws.specs.Seen.{Seen, is_pressed, IsGoneAfter, AreSendingTurns}
 use Rattle.rb_waiting_laws.proofs.Members.{In, in_map, in_flat_map, any_from, from_get}
 
 tested : {A : Type 0} (f : A → Bool) (o : Option A) → option_map_or f o false ≡ true → (x : A) × (o ≡ Some x) × (f x ≡ true)

@@ -6,8 +6,8 @@ use Rattle.rb_scan.specs.Owed.{ready_beyond, same_kind}
 use Rattle.rb_scan.specs.declared.message.Kind.{Kind}
 use Rattle.rb_scan.specs.declared.message.PacketMsg.{PacketMsg}
 use Rattle.rb_script_types.specs.declared.script.Settlement.{Settlement}
-use Rattle.rb_plan_waiting.specs.Seen.{Seen, message_of}
-use Rattle.rb_plan_waiting.specs.Waiting.{IsPunctual}
+use Rattle.rb_waiting_laws.specs.Seen.{Seen, message_of}
+use Rattle.rb_waiting_laws.specs.Waiting.{IsPunctual}
 use Rattle.rb_plan_client.specs.Task.{PathTask, Task, Message, ready_messages, near_reach, press_moment, presses, going_on}
 use Rattle.rb_core_model.specs.Standing.{OpenBatch, ClientState, Standing, opening_standing, open_batch}
 use Rattle.rb_super_turn.specs.Report.{SendingReport, nothing, too_big, batched, PlanReport, Outcome, held, idle, planned, ClientReport, Report}

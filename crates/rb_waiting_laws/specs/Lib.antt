@@ -7,3 +7,5 @@ pub mod Punctual
 pub mod Updates
 pub mod Alive
 pub mod Next
+pub mod Waiting
+pub mod Seen

@@ -5,13 +5,13 @@ ghost use Rattle.rb_waiting_laws.specs.InTime.{MessagesGoInTime};
 ghost use Rattle.rb_waiting_laws.specs.Next.{IdleUntilNext, NextIsNext};
 ghost use Rattle.rb_waiting_laws.specs.Pressing.{PressingGoes};
 ghost use Rattle.rb_waiting_laws.specs.Punctual.{UpdatesKeepDeadlines};
+ghost use Rattle.rb_waiting_laws.specs.Seen.{SeenIsFewest};
 ghost use Rattle.rb_waiting_laws.specs.Steady.{MessagesStayReady, TakenUpdatesAreFewest};
 ghost use Rattle.rb_waiting_laws.specs.Taken.{TakenGoesInTime};
 ghost use Rattle.rb_waiting_laws.specs.Updates.{PressingUpdates};
 
 use rb_book::laws::stays_a_book;
 use rb_plan_refresh::laws::{next_refresh, refresh_is_in_reach};
-use rb_plan_waiting::laws::seen_is_fewest;
 use rb_scan::laws::{all_go_along, settled_is_not_owed};
 use rb_super_laws::laws::planned_views_are_views;
 
@@ -61,6 +61,12 @@ pub fn taken_goes_in_time()
     messages_go_in_time();
     stays_a_book();
 }
+
+/// A run that sends exactly where a message is seen to press, and never sees again what was ready in a sending turn, keeps
+/// every deadline in the fewest turns.
+pub fn seen_is_fewest()
+    ensures { SeenIsFewest }
+{}
 
 /// No choice of turns that sends every message before or when it presses, and not before it is ready, has fewer turns
 /// than those in which packets make a client update, where the client's batches are settled whole and its messages

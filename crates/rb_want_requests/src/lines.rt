@@ -150,7 +150,7 @@ fn write_key_character<W: fmt::Write>(f: &mut fmt::Formatter<W>, character: u8) 
 }
 
 /// What follows `HOST.` in a client's identifier where it begins with that and more, else the whole.
-fn own_id<'a>(host: &str, id: &'a str) -> &'a str
+pub fn own_id<'a>(host: &str, id: &'a str) -> &'a str
     ensures { result.now ≡ own_id host.now id.entry.now }
 {
     let Some(rest) = id.strip_prefix(host) else {

@@ -1,8 +1,8 @@
-use Rattle.std.proofs.Common.{ℕ, ◌<◌, List, [], ◌∷◌, length, ap, ◌∙◌, eqb-true, pos_of_ne-zero, refl, sym, subst}
+use Rattle.std.proofs.Common.{ℕ, ◌<◌, List, [], ◌∷◌, length, None, ap, ◌∙◌, eqb-true, pos_of_ne-zero, refl, sym, subst}
 use borrow.Author.Tests.{eqb-false}
 use Rattle.rb_script_toml.specs.Faults.{fault_view}
 use Rattle.rb_follow.specs.Documents.{Document, document, cut, all_read, last_of}
-use Rattle.rb_follow.specs.Followers.{refused}
+use Rattle.rb_follow.specs.Followers.{refused, faulty}
 use Rattle.rb_follow.specs.Headline.{Told}
 use Rattle.rb_follow.specs.Journals.{outs}
 use Rattle.rb_follow.specs.Views.{following}
@@ -38,8 +38,8 @@ returns-in-Fault-clause-told g c =
     (subst (λ (xs : List ℕ). 0 < length xs) c.document.ensures (pos_of_ne-zero (eqb-false _ 0 (sym c.is_empty.ensures ∙ c.if-is_empty.false)))) in
     told-of (λ x. following x) c.args.teller.now.form (following c.args.follower) (cut ∷ []) (last_of c.args.gathering.now)
     (outs (g.W.Sink.taken c.args.writer.now) (g.J.Journal.documents c.args.journal.now)) (outs (g.W.Sink.taken c.tell.new.writer) (g.J.Journal.documents c.args.journal.now)) c.tell.result (sym one)
-    (told-tell (λ x. following x) c.args.teller.now.form (following c.args.follower) cut (refused (fault_view c.in-Fault.fault)) c.args.follower
-    (outs (g.W.Sink.taken c.args.writer.now) (g.J.Journal.documents c.args.journal.now)) (outs (g.W.Sink.taken c.tell.new.writer) (g.J.Journal.documents c.args.journal.now)) c.tell.result (c.in-Fault.ensures, refl) tt (stores_none (g.J.Journal.documents c.args.journal.now)) c.tell.ensures.same c.tell.ensures.written)
+    (told-tell (λ x. following x) c.args.teller.now.form (following c.args.follower) cut (refused (faulty None (fault_view c.in-Fault.fault))) c.args.follower
+    (outs (g.W.Sink.taken c.args.writer.now) (g.J.Journal.documents c.args.journal.now)) (outs (g.W.Sink.taken c.tell.new.writer) (g.J.Journal.documents c.args.journal.now)) c.tell.result (ap (faulty None) c.in-Fault.ensures, refl) tt (stores_none (g.J.Journal.documents c.args.journal.now)) c.tell.ensures.same c.tell.ensures.written)
 
 pub returns-in-Fault-clause-begun : goal.returns-in-Fault-clause-begun
 returns-in-Fault-clause-begun g c =
@@ -47,8 +47,8 @@ returns-in-Fault-clause-begun g c =
     (subst (λ (xs : List ℕ). 0 < length xs) c.document.ensures (pos_of_ne-zero (eqb-false _ 0 (sym c.is_empty.ensures ∙ c.if-is_empty.false)))) in
     begins-told-of c.args.teller.now.form (following c.args.follower) (cut ∷ []) (last_of c.args.gathering.now)
     (outs (g.W.Sink.taken c.args.writer.now) (g.J.Journal.documents c.args.journal.now)) (outs (g.W.Sink.taken c.tell.new.writer) (g.J.Journal.documents c.args.journal.now)) c.tell.result (sym one)
-    (begins-tell c.args.teller.now.form (following c.args.follower) cut (refused (fault_view c.in-Fault.fault)) (following c.args.follower)
-    (outs (g.W.Sink.taken c.args.writer.now) (g.J.Journal.documents c.args.journal.now)) (outs (g.W.Sink.taken c.tell.new.writer) (g.J.Journal.documents c.args.journal.now)) c.tell.result (c.in-Fault.ensures, refl) tt (stores_none (g.J.Journal.documents c.args.journal.now)) c.tell.ensures.begun)
+    (begins-tell c.args.teller.now.form (following c.args.follower) cut (refused (faulty None (fault_view c.in-Fault.fault))) (following c.args.follower)
+    (outs (g.W.Sink.taken c.args.writer.now) (g.J.Journal.documents c.args.journal.now)) (outs (g.W.Sink.taken c.tell.new.writer) (g.J.Journal.documents c.args.journal.now)) c.tell.result (ap (faulty None) c.in-Fault.ensures, refl) tt (stores_none (g.J.Journal.documents c.args.journal.now)) c.tell.ensures.begun)
 
 -- memory doesn't suffice for the fault
 pub returns-in_default-clause-begun : goal.returns-in_default-clause-begun

@@ -1,13 +1,10 @@
-use Rattle.std.proofs.Common.{◌≡◌, List, ℕ, ap, sym, ◌∙◌, subst, OnErr}
+use Rattle.std.proofs.Common.{◌≡◌, List, ℕ, ap, ◌∙◌, subst, OnErr}
 use Rattle.rb_base.specs.Sink.{AppendsBeginning}
-use Rattle.rb_text_report.specs.Report.{first_line}
 use Rattle.rb_follow.specs.Answers.{head_text}
-use Rattle.rb_follow.specs.declared.told.Form.{Form}
 use Rattle.rb_follow.proofs.following.put_head.Goals as goal
 
-pub returns-in-Text-clause-begun : goal.returns-in-Text-clause-begun
-returns-in-Text-clause-begun g c =
-    let version = c.args.follower.now.setup.version in
-    let text : c.first_line.result.now ≡ head_text c.args.form version =
-    c.first_line.ensures ∙ ap first_line c.version.ensures ∙ ap (λ (form : Form). head_text form version) (sym c.in-Text.is) in
+pub returns-clause-begun : goal.returns-clause-begun
+returns-clause-begun g c =
+    let text : c.head.result.now ≡ head_text c.args.form c.args.follower.now.setup.version =
+    c.head.ensures ∙ ap (head_text c.args.form) c.version.ensures in
     subst (λ (bs : List ℕ). OnErr c.put.result (AppendsBeginning (g.W.Sink.taken c.args.writer.now) (g.W.Sink.taken c.put.new.writer) bs)) text c.put.ensures.begun

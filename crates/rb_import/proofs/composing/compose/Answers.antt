@@ -11,7 +11,7 @@ pub returns-clause-script : goal.returns-clause-script
 returns-clause-script c = (
   c.in_ok-seen.seen,
   c.in_ok-seen.ensures.seen,
-  ((c.in_ok-notices.ensures.left_out, c.in_ok-notices.ensures.missing, c.in_ok-notices.ensures.excess, c.in_ok-notices.ensures.unusable, c.in_ok-notices.ensures.unsure, c.in_ok-notices.ensures.passed, c.in_ok-notices.ensures.unverified, c.in_ok-notices.ensures.canonical), c.in_ok-text.ensures),
+  (c.in_ok-notices.ensures, c.in_ok-text.ensures),
 )
 
 pub returns-then-len-gt-MAX_BYTES-clause-big : goal.returns-then-len-gt-MAX_BYTES-clause-big

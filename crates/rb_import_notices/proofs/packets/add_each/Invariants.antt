@@ -1,9 +1,8 @@
 use Rattle.std.proofs.Common.{◌≡◌, ◌++◌, drop, map}
-use Rattle.rb_import_notices.specs.Packets.{left_out_of, packet_told}
+use Rattle.rb_import_notices.specs.Packets.{packet_left_out}
 use Rattle.rb_import_notices.proofs.packets.add_each.Given as goal
 
--- what is told of the packets so far, and of those that are left
-abbrev pub invariant-loop-one : goal.invariant-loop-one
-invariant-loop-one l =
-    map packet_told l.found.items ++ left_out_of l.path (drop l.one-index l.packets)
-    ≡ map packet_told l.initial.found.items ++ left_out_of l.path l.packets
+-- the notices so far, and those of the packets that are left
+abbrev pub invariant-loop-packet : goal.invariant-loop-packet
+invariant-loop-packet l =
+    l.list.items ++ map (packet_left_out l.saved l.path) (drop l.packet-index l.packets) ≡ l.initial.list.items ++ map (packet_left_out l.saved l.path) l.packets

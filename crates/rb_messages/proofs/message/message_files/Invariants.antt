@@ -9,4 +9,4 @@ abbrev pub invariant-loop-place : goal.invariant-loop-place
 invariant-loop-place l =
     (map (λ f. string_bytes f.name) l.files.items ++ map (λ p. file_name p.0 p.1) (enumerate_from l.place (drop l.place l.updates))
     ≡ map (λ p. file_name p.0 p.1) (enumerate_from 0 l.updates))
-    × AllZip (IsFileOf l.chains l.seen l.answers) (take l.place l.updates) l.files.items
+    × AllZip (IsFileOf l.chains l.seen) (take l.place l.updates) l.files.items

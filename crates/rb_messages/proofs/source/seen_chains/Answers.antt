@@ -16,7 +16,8 @@ loop-place-preserved c =
     let answers = c.args.answers.now in
     let place = c.loop-place.place in
     let tells = TellsAt c.args.chains.now in
-    let one = subst (λ id. Tells id c.index-answers-place.result c.in-Ok.one) c.id_of.ensures c.in-Ok.ensures.told in
+    let told = subst (λ items. Tells c.id_of.result.now items c.in-Ok.one) c.as_slice.ensures.value c.in-Ok.ensures.told in
+    let one = subst (λ id. Tells id c.index-answers-place.result.items c.in-Ok.one) c.id_of.ensures told in
     let more = placed_more tells answers place c.index-answers-place.result c.loop-place.seen.items c.in-Ok.one c.loop-place-test.true
     c.index-answers-place.is one c.loop-place.invariant in
     subst (AllZip tells (take (place + 1) (enumerate_from 0 answers))) (sym c.in_ok-push-in-Ok.ensures.items) more

@@ -1,0 +1,65 @@
+//! The command line of `certify`.
+use crate::request::{JSON, Request, SCRIPT, flag, script_command};
+use clap::error::ErrorKind;
+use clap::{Arg, ArgMatches, Command, Error};
+use ibcplan_errors::STANDARD_INPUT;
+use std::alloc::{AllocError, Global};
+
+pub(crate) const CERTIFY: &str = "certify";
+
+const CERT: &str = "CERT";
+
+const AFTER_CERTIFY: &str = "Examples (in the folder of the repository):
+  ./ibcplan certify examples/smallest.toml examples/smallest.certificate
+  ./ibcplan certify examples/smallest.toml - < examples/smallest.certificate
+  (cat examples/smallest.toml; echo ---; cat examples/smallest.certificate) |
+    ./ibcplan certify -
+
+It writes yes (exit status 0), or no and the reason (exit status 3). Where both texts
+come from standard input, the script is first, and a line --- ends it.";
+
+pub(crate) fn certify_command<'a>(alloc: Global) -> Result<Command<'a>, AllocError> {
+    let about = "Judges whether a plan is the cheapest for a script, or whether there is none";
+    script_command(alloc, CERTIFY, about, AFTER_CERTIFY)?
+        .arg(certificate(alloc))?
+        .arg(flag(alloc, JSON, "Writes the verdict as JSON"))
+}
+
+/// The certificate, which may stand behind a script on standard input.
+fn certificate<'a>(alloc: Global) -> Arg<'a> {
+    Arg::new(alloc, CERT).help(
+        "The certificate's file: a plan that anybody made; - for standard input; without it SCRIPT has to be -, and both come from there",
+    )
+}
+
+/// The request of `certify`, or none where no certificate is given beside a file, or standard input is to be both.
+pub(crate) fn certify_of<'a>(given: &ArgMatches<'a>) -> Option<Request<'a>> {
+    let script = given.get_str(SCRIPT)?;
+    let is_json = given.get_flag(JSON);
+    match given.get_str(CERT) {
+        None if script == STANDARD_INPUT => Some(Request::CertifyInput { is_json }),
+        None => None,
+        Some(certificate) if script == STANDARD_INPUT && certificate == STANDARD_INPUT => None,
+        Some(certificate) => Some(Request::Certify {
+            script,
+            certificate,
+            is_json,
+        }),
+    }
+}
+
+/// What is wrong with the words of `certify` that make no request.
+pub(crate) fn certify_flaw(alloc: Global, given: &ArgMatches<'_>) -> Result<Error, AllocError> {
+    let mut command = certify_command(alloc)?.bin_name("ibcplan certify")?;
+    if given.get_str(CERT).is_some() {
+        command.error(
+            ErrorKind::ArgumentConflict,
+            "only one of <SCRIPT> and <CERT> can be standard input\n\n  certify - takes both from there, one after the other",
+        )
+    } else {
+        command.error(
+            ErrorKind::MissingRequiredArgument,
+            "the following required arguments were not provided:\n  <CERT>",
+        )
+    }
+}

@@ -1,6 +1,0 @@
-use Rattle.std.proofs.Common.{append_assoc, refl}
-use Rattle.std.proofs.Output.{has_written_of_eq}
-use Rattle.rb_import_notices.proofs.excess.TooManyPacketsDisplay.fmt.Goals as goal
-
-pub returns-clause-writes : goal.returns-clause-writes
-returns-clause-writes g c = λ plain ok. has_written_of_eq _ _ _ _ _ (simp append_assoc refl) (c.write.ensures.writes plain ok)

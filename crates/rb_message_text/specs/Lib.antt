@@ -1,4 +1,0 @@
-pub mod Signed
-pub mod SignedTexts
-pub mod Views
-pub mod MessageTexts
