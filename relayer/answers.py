@@ -1,5 +1,5 @@
-"""The folder of answers that the proved program reads (docs/IMPORT.md). Final headers and validator sets stay from round to round; so do a client's consensus
-states while its state is the same, and where a chain stood for a while. All other answers are of one round."""
+"""The folder of answers that the proved program reads (docs/IMPORT.md). Final headers and validator sets stay from round to round; so do transactions with
+packets that are pending, a client's consensus states while its state is the same, and where a chain stood for a while. All other answers are of one round."""
 import contextlib
 import os
 import pathlib
@@ -12,6 +12,7 @@ from relayer.words import Fault
 HEIGHTS = 64  # of which a chain's headers and validators stay
 HEADERS = "[cv]*-*.json"  # the names of a chain's commits and validators
 PAGES = "consensus_states-*"
+SEARCHES = "[srw]*-*.json"  # the names of a path's searches: sent, received, written
 
 
 def write_whole(file: pathlib.Path, body: bytes, is_synced: bool = False) -> None:
@@ -35,14 +36,13 @@ class AnswerFolder:
     def __init__(self, folder: pathlib.Path) -> None:
         self.folder, self.lock = folder, threading.Lock()
         self.origins: dict[str, Source] = {}
-        self.saved: set[str] = set()  # files that nobody has looked at yet
         self.states: dict[str, str] = {}  # of clients: the state of which the consensus states are there
 
     def file(self, name: str) -> pathlib.Path:
         return self.folder / name
 
     def begin_round(self, chains: list[str], clients: list[str], paths: list[str]) -> None:
-        """Takes away what is of one moment: refusals, the clients' states, and all answers on paths."""
+        """Takes away what is of one moment: refusals, the clients' states, what is pending on paths, and proofs."""
         for name in (*chains, *clients, *paths):
             (self.folder / name).mkdir(parents=True, exist_ok=True)
             self.drop_all(name, "*.refused")
@@ -53,7 +53,26 @@ class AnswerFolder:
                 self.states[client] = state_text(fields_in(self.file(f"{client}/client_state.json").read_bytes()))
             self.drop(f"{client}/client_state.json")
         for path in paths:
-            self.drop_all(path, "*")
+            self.drop_searches(path)
+            for names in "commitments-*", "unreceived-*", "acknowledgements-*", "proofs/*":
+                self.drop_all(path, names)
+
+    def drop_searches(self, path: str) -> None:
+        """Takes away the searches on a path that found nothing, or whose packets weren't pending any more."""
+        pending = self.pending(path)
+        for file in self.file(path).glob(SEARCHES):
+            if file.stem.partition("-")[2] not in pending or not fields_in(file.read_bytes()).objects("txs"):
+                self.drop(f"{path}/{file.name}")
+
+    def pending(self, path: str) -> set[str]:
+        """The sequences of a path's packets that have commitments."""
+        pages = [fields_in(file.read_bytes()) for file in self.file(path).glob("commitments-*.json")]
+        return {str(each.number("sequence")) for page in pages for each in page.objects("commitments")}
+
+    def drop_packet(self, path: str, sequence: int) -> None:
+        """Takes away what is known of a packet."""
+        for names in f"[srw]*-{sequence}.*", f"proofs/*-{sequence}-*":
+            self.drop_all(path, names)
 
     def drop_low_heights(self, chain: str) -> None:
         """Takes away a chain's headers and validators but for the highest ones."""
@@ -66,15 +85,7 @@ class AnswerFolder:
     def save(self, name: str, answer: Answer) -> None:
         with self.lock:
             self.origins[name] = answer.source
-            self.saved.add(name)
         write_whole(self.file(name), answer.body)
-
-    def take_saved(self, chain: str) -> set[str]:
-        """The files of a chain that were saved since this was asked last."""
-        with self.lock:
-            found = {name for name in self.saved if name.startswith(f"{chain}/")}
-            self.saved -= found
-        return {name.removeprefix(f"{chain}/") for name in found}
 
     def drop_old_pages(self, client: str, answer: Answer) -> None:
         """Takes a client's consensus states away, if its state isn't the one before."""
@@ -89,8 +100,8 @@ class AnswerFolder:
 
     def drop_all(self, place: str, names: str) -> None:
         """Takes away the files of a chain, a client or a path whose names have a form."""
-        for file in (self.folder / place).glob(names):
-            self.drop(f"{place}/{file.name}")
+        for file in self.file(place).glob(names):
+            self.drop(str(file.relative_to(self.folder)))
 
 
 def state_text(answer: Fields) -> str:

@@ -1,11 +1,11 @@
 """`check`: whether each node, gateway, client, account and channel is as it has to be, a line for each."""
 import dataclasses
 import enum
-import subprocess
 
 from relayer.clock import Clock
 from relayer.config import Chain, Client, Config, End
 from relayer.node import Kind, Refused, Source, SourceFailure
+from relayer.send import Failed, account_of
 from relayer.sources import Sources, Standing, Unavailable, standing_in
 from relayer.values import Fields, nanoseconds, stamp_of
 from relayer.words import Log, shown
@@ -107,16 +107,12 @@ class Check:
             self.add(Mark.WARNING, chain.id, "no program signs, so that nothing is sent")
             return
         about = f"{chain.id} account {chain.sender.signer}"
-        words = [*chain.sender.program, "keys", "show", chain.sender.signer, "--address", *chain.sender.options]
         try:
-            done = subprocess.run(words, capture_output=True, timeout=30, stdin=subprocess.DEVNULL)
-        except (OSError, subprocess.TimeoutExpired) as error:
-            self.add(Mark.WARNING, about, str(error))
+            address = account_of(chain.sender)
+        except Failed as failed:
+            self.add(Mark.WARNING, about, str(failed))
             return
-        address = done.stdout.decode(errors="replace").strip()
-        if done.returncode != 0 or not address.isalnum() or not address.isascii():
-            self.add(Mark.WARNING, about, f"keys show ended with status {done.returncode}")
-        elif (answer := self.asked(chain.id, about, f"/cosmos/bank/v1beta1/balances/{address}", Mark.WARNING)) is not None:
+        if (answer := self.asked(chain.id, about, f"/cosmos/bank/v1beta1/balances/{address}", Mark.WARNING)) is not None:
             coins = [f"{coin.text('amount')}{coin.text('denom')}" for coin in answer.objects("balances")]
             self.add(Mark.GOOD if coins else Mark.BAD, about, " ".join(coins[:5]) or "it has no coins")
 

@@ -1,5 +1,6 @@
 """The configuration, `relayer.toml`: chains with their nodes and gateways, clients, and the directions of channels."""
 import dataclasses
+import fractions
 import pathlib
 import re
 import tomllib
@@ -12,7 +13,7 @@ from relayer.words import Fault, shown
 IDENTIFIER = re.compile(r"[A-Za-z0-9][A-Za-z0-9._+#\[\]<>-]{0,63}")  # of a chain, and of a client as ICS 24 has it; a folder may have this name
 END_WORD = re.compile(r"[A-Za-z0-9._+#\[\]<>-]{1,128}")  # a port or a channel
 SIGNER = re.compile(r"[A-Za-z0-9][A-Za-z0-9._@-]{0,127}")
-GAS_PRICE = re.compile(r"[0-9]{1,18}(\.[0-9]{1,18})?[a-zA-Z][a-zA-Z0-9/:._-]{1,127}")
+GAS_PRICE = re.compile(r"([0-9]{1,9}(?:\.[0-9]{1,9})?)([a-zA-Z][a-zA-Z0-9/:._-]{1,127})")
 WORD = re.compile(r"[^\x00-\x1f\x7f-\x9f]+")
 ORDER = re.compile("ordered|unordered")
 DAY = 86_400
@@ -27,9 +28,16 @@ class Sender:
     program: tuple[str, ...]
     signer: str
     options: tuple[str, ...] = ()
-    gas_price: str = ""
+    gas_price: str = "0.025stake"
     gas_factor: float = 1.2
     open_blocks: int = 50  # a transaction can be included in so many blocks
+
+    @property
+    def price(self) -> tuple[fractions.Fraction, str]:
+        """The price of gas and its coin."""
+        match = GAS_PRICE.fullmatch(self.gas_price)
+        assert match is not None
+        return fractions.Fraction(match[1]), match[2]
 
 
 @dataclasses.dataclass(frozen=True)
@@ -84,7 +92,8 @@ class End:
 
 @dataclasses.dataclass(frozen=True)
 class Path:
-    """A direction of a channel. Receives go by the client `forward` at the destination, acknowledgements and timeouts by `back` at the source."""
+    """A direction of a channel. Receives go by the client `forward` at the destination, acknowledgements and timeouts by `back` at the source. The gas of
+    the three, and how many seconds they may wait for others."""
 
     source: End
     dest: End
@@ -92,10 +101,20 @@ class Path:
     forward: str
     back: str
     first: int = 1
+    gas: Three = (200_000, 150_000, 150_000)
+    wait: Three = (0, 0, 0)
 
     @property
     def name(self) -> str:
         return f"{self.source.chain}.{self.source.channel}"[:64]
+
+    @property
+    def chains(self) -> tuple[str, str]:
+        return self.source.chain, self.dest.chain
+
+    @property
+    def clients(self) -> tuple[str, str]:
+        return self.forward, self.back
 
 
 @dataclasses.dataclass(frozen=True)
@@ -114,6 +133,7 @@ class Config:
     answer_seconds: float = 10.0
     is_verified: bool = True
     metrics_port: int = 0
+    only: str = ""  # the host for which the relayer works, if it isn't all
 
     @property
     def window_nanos(self) -> int:
@@ -123,16 +143,17 @@ class Config:
         return next(chain for chain in self.chains if chain.id == name)
 
     def hosts(self) -> list[str]:
-        """The chains that host clients, in the configuration's order."""
-        return [chain.id for chain in self.chains if any(client.host == chain.id for client in self.clients)]
+        """The chains that host clients, in the configuration's order; one alone with `--host`."""
+        return [chain.id for chain in self.chains if self.only in ("", chain.id) and any(client.host == chain.id for client in self.clients)]
 
     def limited_to(self, host: str) -> "Config":
-        """The configuration for the clients of one host alone."""
+        """The configuration for the clients of one host alone, with the other clients of its channels, which are read and never sent to."""
         if host not in self.hosts():
             raise Fault(f"--host {shown(host)}: the configuration has no client on this chain", 2)
-        clients = tuple(client for client in self.clients if client.host == host)
-        names = {host} | {client.of for client in clients}
-        return dataclasses.replace(self, chains=tuple(chain for chain in self.chains if chain.id in names), clients=clients, paths=(), folder=self.folder / host)
+        paths = tuple(path for path in self.paths if host in path.chains)
+        clients = tuple(client for client in self.clients if client.host == host or any(client.name in path.clients for path in paths))
+        names = {name for client in clients for name in (client.host, client.of)}
+        return dataclasses.replace(self, chains=tuple(chain for chain in self.chains if chain.id in names), clients=clients, paths=paths, folder=self.folder / host, only=host)
 
 
 # ---- values: each reader takes a value, or raises a `ValueError` that says what belongs there
@@ -237,10 +258,12 @@ class Table:
 
 
 def read_sender(table: Table) -> Sender | None:
-    sender = Sender(table.take("program", texts, ()), table.take("signer", text(SIGNER), ""), table.take("options", texts, ()), table.take("gas_price", text(GAS_PRICE), ""),
+    sender = Sender(table.take("program", texts, ()), table.take("signer", text(SIGNER), ""), table.take("options", texts, ()), table.take("gas_price", text(GAS_PRICE), "-"),
                     table.take("gas_factor", number(1, 10), Sender.gas_factor), table.take("open_blocks", whole(5, 10_000), Sender.open_blocks))
     if sender.program and not sender.signer:
         raise table.fault("signer", "the account that signs belongs here")
+    if sender.program and sender.gas_price == "-":
+        raise table.fault("gas_price", "what gas costs belongs here, as 0.025uatom")
     return sender if sender.program else None
 
 
@@ -270,7 +293,7 @@ def read_path(table: Table, chains: dict[str, Chain], clients: dict[str, Client]
     source, dest = (End(table.one_of(key, text(IDENTIFIER), chains), table.take(f"{before}port", text(END_WORD)), table.take(f"{before}channel", text(END_WORD)))
                     for key, before in (("source", ""), ("dest", "counterparty_")))
     path = Path(source, dest, table.take("order", text(ORDER)), table.take("forward", text(IDENTIFIER)), table.take("back", text(IDENTIFIER)),
-                table.take("first", whole(1, 2**63 - 1), Path.first))
+                table.take("first", whole(1, 2**63 - 1), Path.first), table.take("gas", three(10**9), Path.gas), table.take("wait_seconds", three(10**9), Path.wait))
     for key, name, host, of in ("forward", path.forward, dest, source), ("back", path.back, source, dest):
         client = clients.get(name)
         if client is None or (client.host, client.of) != (host.chain, of.chain):

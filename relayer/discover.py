@@ -39,9 +39,9 @@ def hermes_chain(table: Fields, gateways: dict[str, list[str]], file: pathlib.Pa
         raise Fault(f"{file}: a chain lacks its id")
     price = table.object("gas_price").value.get("price")
     amount = price if isinstance(price, (int, float)) and price > 0 else 0
-    gas_price = f"{amount:.12f}".rstrip("0").rstrip(".") + (table.object("gas_price").text("denom") or "")
+    gas_price = f"{amount:.9f}".rstrip("0").rstrip(".") + (table.object("gas_price").text("denom") or "")
     signer = table.text("key_name") or ""
-    sender = Sender(("simd",), signer if SIGNER.fullmatch(signer) else "relayer", (), gas_price if GAS_PRICE.fullmatch(gas_price) else "")
+    sender = Sender(("simd",), signer if SIGNER.fullmatch(signer) else "relayer", (), gas_price if GAS_PRICE.fullmatch(gas_price) else Sender.gas_price)
     limits = table.number("max_gas") or 400_000, table.number("max_msg_num") or 30, 20_000
     return Chain(name, nodes, tuple(gateways.get(name, ())), fee_of(amount), Chain.gas, limits, sender)
 
@@ -176,9 +176,8 @@ def array(items: tuple[str, ...]) -> str:
 def chain_text(chain: Chain, updates: int) -> str:
     sender = chain.sender or Sender((), "relayer")
     none = "" if chain.gateways else "  # write the address of a gateway (ibc-go's REST), as https://rest.example"
-    price = f'gas_price = "{sender.gas_price}"\n' if sender.gas_price else '# gas_price = "0.025stake"\n'
     return (f'[[chain]]\nid = "{chain.id}"\nnodes = {array(chain.nodes)}  # several, as they come\ngateways = {array(chain.gateways)}{none}\n'
-            f"program = {array(sender.program)}  # signs and broadcasts\nsigner = \"{sender.signer}\"\noptions = []  # as \"--keyring-backend\", \"test\"\n{price}"
+            f"program = {array(sender.program)}  # signs and broadcasts\nsigner = \"{sender.signer}\"\noptions = []  # as \"--keyring-backend\", \"test\"\ngas_price = \"{sender.gas_price}\"\n"
             f"fee = {list(chain.fee)}\ngas = {list(chain.gas)}{f'  # by {updates} updates' if updates else ''}\nlimits = {list(chain.limits)}\n\n")
 
 
@@ -186,7 +185,8 @@ def path_text(path: Path) -> str:
     source, dest = path.source, path.dest
     return (f'[[path]]  # {source.port} of {source.chain} to {dest.port} of {dest.chain}\nsource = "{source.chain}"\nport = "{source.port}"\nchannel = "{source.channel}"\n'
             f'dest = "{dest.chain}"\ncounterparty_port = "{dest.port}"\ncounterparty_channel = "{dest.channel}"\n'
-            f'order = "{path.order}"\nforward = "{path.forward}"\nback = "{path.back}"\n\n')
+            f'order = "{path.order}"\nforward = "{path.forward}"\nback = "{path.back}"\n'
+            f"gas = {list(path.gas)}  # of a receive, an acknowledgement, a timeout\nwait_seconds = {list(path.wait)}  # for others\n\n")
 
 
 def write_config(chains: list[Chain], file: pathlib.Path, log: Log, clock: Clock) -> tuple[int, int]:

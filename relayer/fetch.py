@@ -1,20 +1,24 @@
-"""Fetches what `want` asks for. A source that gives what can't be is left for another one."""
+"""Fetches what `want` and `messages` ask for. A source that gives what can't be is left for another one."""
 import functools
+import math
 import pathlib
+import re
+from collections.abc import Iterable
 
 from relayer.answers import HEADERS, AnswerFolder, write_whole
 from relayer.config import Config
-from relayer.node import Kind, Refused
-from relayer.planner import Planner, Request
+from relayer.node import Answer, Kind, Refused
+from relayer.planner import Planner, Request, requests_in
 from relayer.sources import Sources, Standing, Unavailable, standing_in
 from relayer.values import Fields, fields_in
 from relayer.verify import Doubt, Verifier
-from relayer.words import Log
+from relayer.words import Fault, Log
 
 PASSES = 80  # calls of `want` for a setup
 MOST_PAGES = 60  # of a query
 GATEWAY_QUERIES = {"client_state", "consensus_states", "commitments", "unreceived", "acknowledgements"}
 PAGED = {"consensus_states", "commitments"}
+SEARCH = re.compile(r"[^/]+/(?:sent|received|written)-[0-9]+\.json")  # of a packet's transactions
 
 
 class Fetcher:
@@ -24,14 +28,17 @@ class Fetcher:
         self.planner, self.sources, self.folder, self.log, self.window_nanos = planner, sources, folder, log, config.window_nanos
         self.verifier = Verifier(folder, log) if config.is_verified else None
         self.standings: dict[str, Standing] = {}
+        self.later: dict[str, Answer] = {}  # where chains stand, if the header of an earlier standing leads the fetch
         self.down: set[tuple[str, Kind]] = set()
-        self.refused: set[str] = set()  # requests, as FOLDER/NAME
-        self.floors: dict[str, int] = {}  # of clients: the latest height that an answer on one has to have
+        self.refused: dict[str, str] = {}  # requests, as FOLDER/NAME, and the words
+        self.floors: dict[str, int] = {}  # of chains: the block that the answers of gateways have to know
+        self.aside: set[str] = set()  # searches that nobody is asked for: without them `import` leaves packets out
 
     def begin_round(self, chains: list[str]) -> None:
         self.down.clear()
         self.refused.clear()
         self.standings.clear()
+        self.later.clear()
         self.stand(chains)
         for chain in chains:
             self.check(chain)
@@ -47,7 +54,9 @@ class Fetcher:
                 self.down.add((chain, Kind.NODE))
                 continue
             self.standings[chain], answer = best[chain]
-            if not self.has_young_header(chain):
+            if self.has_young_header(chain):
+                self.later[chain] = answer
+            else:
                 self.folder.save(f"{chain}/status", answer)
 
     def has_young_header(self, chain: str) -> bool:
@@ -64,7 +73,7 @@ class Fetcher:
         if standing is None or f"{chain}/commit-{standing.height - 1}" not in self.refused:
             return
         self.folder.drop_all(chain, "*.refused")
-        self.refused = {other for other in self.refused if not other.startswith(f"{chain}/")}
+        self.refused = {name: words for name, words in self.refused.items() if not name.startswith(f"{chain}/")}
         source = self.folder.drop(f"{chain}/status")
         if source is not None:
             self.sources.fail(source, "no node gives the header below its latest height")
@@ -78,18 +87,34 @@ class Fetcher:
 
     # ---- answers
 
-    def fetch(self, setup: pathlib.Path) -> dict[str, str]:
-        """Asks until `want` asks for no more, or for nothing that a source is left for; why no more is asked for clients and paths."""
+    def fetch(self, setup: pathlib.Path, paths: Iterable[str] = ()) -> dict[str, str]:
+        """Asks until `want` asks for no more, or for nothing that a source is left for; why no more is asked for clients and paths. Where packets are pending,
+        the latest headers lead."""
         for _ in range(PASSES):
             wanted, ends = self.planner.want(setup, self.folder.folder)
             requests = [request for request in wanted if (request.chain, kind_of(request)) not in self.down]
             if not requests:
                 break
-            for request in requests:
-                if self.folder.file(request.file).exists():
-                    self.doubt(Doubt(request.file, "it doesn't hold what was asked for"))
-            self.take(requests)
+            for file in (request.file for request in requests if self.folder.file(request.file).exists()):
+                if SEARCH.fullmatch(file):
+                    self.leave_search(file)
+                else:
+                    self.doubt(Doubt(file, "it doesn't hold what was asked for"))
+            self.take([request for request in requests if f"{request.folder}/{request.name}" not in self.refused])
+            if self.later and any(self.folder.pending(path) for path in paths):
+                for chain, answer in self.later.items():
+                    self.folder.save(f"{chain}/status", answer)
+                self.later.clear()
         return ends
+
+    def messages(self, setup: pathlib.Path, made: pathlib.Path) -> tuple[int, str, str]:
+        """Has the messages of a setup's plan made in a folder, with the proofs that they need; the status, and what was written to both outputs."""
+        for _ in range(2):
+            status, output, error = self.planner.messages(setup, self.folder.folder, made)
+            if not (requests := requests_in(output)):
+                return status, output, error
+            self.take(requests)
+        raise Fault("ibcplan messages asks for proofs again", 4)
 
     def take(self, requests: list[Request]) -> None:
         """Fetches in two steps what one call of `want` asks for: consensus states come after the client's state, validators after the header of their
@@ -105,24 +130,39 @@ class Fetcher:
             self.check_standing(chain)
 
     def answer(self, request: Request) -> None:
-        """Fetches and saves the answer to a request."""
+        """Fetches and saves the answer to a request, or that there is none."""
+        name = f"{request.folder}/{request.name}"
         try:
             if request.kind in PAGED and request.number > MOST_PAGES:
                 raise Refused("more pages than a query may have")
+            if name in self.aside:
+                raise Refused("this packet is set aside")
             found = self.sources.ask(request.chain, kind_of(request), request.path)
-            while request.kind == "client_state" and latest_in(found.fields) < self.floors.get(request.folder, 0):
-                self.sources.fail(found.source, f"it is behind: {request.folder} was updated since")
+            while kind_of(request) is Kind.GATEWAY and block_of(found.fields) < self.floors.get(request.chain, 0):
+                self.sources.fail(found.source, f"it is behind block {self.floors[request.chain]}, which included a transaction")
                 found = self.sources.ask(request.chain, kind_of(request), request.path)
         except Refused as refused:
-            self.refused.add(f"{request.folder}/{request.name}")
-            write_whole(self.folder.file(f"{request.folder}/{request.name}.refused"), str(refused).encode())
-            self.log.info("request refused", chain=request.chain, path=request.path, words=str(refused))
-        except Unavailable:
+            self.refuse(name, str(refused))
+        except Unavailable as error:
             self.down.add((request.chain, kind_of(request)))
+            if request.folder.endswith("/proofs"):  # `messages` goes on without them
+                self.refuse(name, str(error))
         else:
             if request.kind == "client_state":
                 self.folder.drop_old_pages(request.folder, found)
             self.folder.save(request.file, found)
+
+    def refuse(self, name: str, words: str) -> None:
+        """Notes that there is no answer, so that it isn't asked for again."""
+        self.refused[name] = words
+        write_whole(self.folder.file(f"{name}.refused"), words.encode())
+        self.log.info("refused", request=name, words=words)
+
+    def leave_search(self, file: str) -> None:
+        """Leaves a search out whose answer can't be used, in this round: its words may be those of a packet's sender, so its source is only asked last from now on."""
+        if source := self.folder.drop(file):
+            self.sources.move(source, -1)
+        self.refuse(file.removesuffix(".json"), "its answer can't be used")
 
     # ---- doubts
 
@@ -141,9 +181,10 @@ class Fetcher:
             self.sources.fail(source, f"{doubt.file}: {doubt.why}")
 
 
-def latest_in(state: Fields) -> int:
-    """The latest height that the answer on a client's state tells."""
-    return state.object("client_state").object("latest_height").number("revision_height") or 0
+def block_of(answer: Fields) -> float:
+    """The block at which a gateway gave an answer; of one that doesn't tell it no bound."""
+    blocks = (answer.object(key).number("revision_height") for key in ("height", "proof_height"))
+    return next((block for block in blocks if block is not None), math.inf)
 
 
 def kind_of(request: Request) -> Kind:

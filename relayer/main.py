@@ -6,12 +6,15 @@ import pathlib
 import sys
 
 from relayer import lines
+from relayer.answers import AnswerFolder
 from relayer.check import Check, Mark
 from relayer.clock import Clock
 from relayer.config import Config, read_config
 from relayer.discover import by_chain, chains_by_hand, read_hermes, write_config
-from relayer.pending import pending
+from relayer.fetch import Fetcher
+from relayer.planner import Planner
 from relayer.rounds import Relayer
+from relayer.sources import Sources
 from relayer.watch import Watch, stop_by_signals
 from relayer.words import Fault, Log, Quiet, shown
 
@@ -19,7 +22,7 @@ VERSION = "1"
 
 
 def parser() -> argparse.ArgumentParser:
-    whole = argparse.ArgumentParser("ibcplan-relayer", description="Relays light-client updates by the plans of ibcplan.")
+    whole = argparse.ArgumentParser("ibcplan-relayer", description="Relays updates of light clients and packets by the plans of ibcplan.")
     whole.add_argument("--config", type=pathlib.Path, default=pathlib.Path("relayer.toml"), help="the configuration (relayer.toml)")
     whole.add_argument("--version", action="version", version=f"ibcplan-relayer {VERSION}")
     commands = whole.add_subparsers(dest="command", required=True)
@@ -32,9 +35,13 @@ def parser() -> argparse.ArgumentParser:
     once = commands.add_parser("once", help="makes a round: fetches, plans and sends")
     once.add_argument("--dry-run", action="store_true", help="sends nothing")
     watch = commands.add_parser("watch", help="makes rounds until it is stopped")
+    fetch = commands.add_parser("fetch", help="saves the answers that a setup needs, for ibcplan import")
+    fetch.add_argument("setup", type=pathlib.Path)
+    fetch.add_argument("folder", type=pathlib.Path, help="of the answers")
+    fetch.add_argument("made", type=pathlib.Path, nargs="?", metavar="DIR", help="has messages made there, with their proofs")
     for each in check, waiting, once:
         each.add_argument("--json", action="store_true", help="writes data, and not lines")
-    for each in check, once, watch:
+    for each in check, waiting, once, watch:
         each.add_argument("--host", help="the clients on this chain alone")
     return whole
 
@@ -58,6 +65,29 @@ def run_init(options: argparse.Namespace, clock: Clock) -> int:
     return 0
 
 
+def run_fetch(options: argparse.Namespace, clock: Clock) -> int:
+    """Saves the answers that a setup needs, and has its messages made if that is asked for; status 1 where sources are missing, else that of `messages`."""
+    config, log = read_config(options.config), Quiet()
+    planner, sources = Planner(config), Sources(config, log, clock)
+    fetcher = Fetcher(planner, sources, AnswerFolder(options.folder), config, log)
+    status, output, error = 0, "", ""
+    try:
+        for name, why in fetcher.fetch(options.setup).items():
+            log.warn("no more is asked", about=name, why=why)
+        if options.made:
+            status, output, error = fetcher.messages(options.setup, options.made)
+    finally:
+        sources.close()
+    for name, words in fetcher.refused.items():
+        log.warn("refused", request=name, words=words)
+    for chain, kind in fetcher.down:
+        log.warn("nobody answers", chain=chain, kind=kind.value)
+    log.warn("fetched", requests=sources.requests(), rounds=planner.calls)
+    sys.stdout.write(output)
+    sys.stderr.write(error)
+    return 1 if fetcher.down else status
+
+
 def run_check(options: argparse.Namespace, clock: Clock) -> int:
     """A line for each part; status 1 where one is bad, 3 where one needs a look."""
     found = Check(config_of(options), Quiet(io.StringIO()), clock).run()
@@ -67,13 +97,14 @@ def run_check(options: argparse.Namespace, clock: Clock) -> int:
 
 
 def run_pending(options: argparse.Namespace, clock: Clock) -> int:
-    relayer = Relayer(read_config(options.config), Quiet(), clock)
+    """The packets that wait, by a round that sends nothing."""
+    relayer = Relayer(config_of(options), Quiet(), clock)
     try:
-        found = pending(relayer)
+        report = relayer.round(is_dry=True)
     finally:
         relayer.close()
-    told(options, found.value(), found.lines())
-    return 1 if found.unknown else 0
+    told(options, lines.pending_value(report, relayer.state.failures), lines.pending_lines(report, relayer.state.failures))
+    return 1 if report.unknown else 0
 
 
 def run_once(options: argparse.Namespace, clock: Clock) -> int:
@@ -99,7 +130,7 @@ def run_watch(options: argparse.Namespace, clock: Clock) -> int:
     return 0
 
 
-COMMANDS = {"init": run_init, "check": run_check, "pending": run_pending, "once": run_once, "watch": run_watch}
+COMMANDS = {"init": run_init, "fetch": run_fetch, "check": run_check, "pending": run_pending, "once": run_once, "watch": run_watch}
 
 
 def main(clock: Clock) -> int:

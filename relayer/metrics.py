@@ -5,6 +5,9 @@ import threading
 HELP = {
     "ibcplan_client_expires_timestamp_seconds": "When a client expires if it isn't updated.",
     "ibcplan_client_next_timestamp_seconds": "When something is due for a client next.",
+    "ibcplan_path_pending_packets": "Packets of a path that wait.",
+    "ibcplan_relayer_packets_total": "Messages on packets of a path that were included.",
+    "ibcplan_relayer_failures": "Clients and packets that wait after transactions that failed.",
     "ibcplan_relayer_updates_total": "Updates of a client that were included.",
     "ibcplan_relayer_fees_total": "Fees of these updates by the plans, in the unit of the configuration.",
     "ibcplan_relayer_transactions_total": "Transactions to a host by what became of them.",

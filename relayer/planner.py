@@ -1,25 +1,29 @@
 """The proved program: `want`, `import`, `plan` and `messages`, called with lists of arguments, and what they write."""
 import dataclasses
+import fractions
 import os
 import pathlib
 import re
 import subprocess
+import tomllib
+from collections.abc import Mapping
 
 import ibcplan
-from relayer.config import Client, Config, Path
-from relayer.values import nanoseconds, stamp_of
+from relayer.config import Chain, Client, Config, Path
+from relayer.values import Fields, nanoseconds, stamp_of
 from relayer.words import Fault, shown
 
 SECONDS = 600  # that a call may take
-GET = re.compile(r"get (\S+) (/\S+) ([A-Za-z0-9][A-Za-z0-9._+#\[\]<>-]{0,63})/([a-z_]+(?:-[0-9]+)*)(\.json)?")
-MESSAGE = re.compile(r"([0-9]+-[0-9]+-([0-9]+)\.json) client (\S+) transaction ([0-9]+)")
+GET = re.compile(r"get (\S+) (/\S+) ([A-Za-z0-9][A-Za-z0-9._+#\[\]<>-]{0,63}(?:/proofs)?)/([a-z_]+(?:-[0-9]+)*)(\.json)?")
+TRANSACTION = re.compile(r"(tx-[0-9]+-[A-Za-z0-9._+#\[\]<>-]+\.json) client (\S+) transaction ([0-9]+) messages [0-9]+")
+LOST = re.compile(r"left out (\S+) (recv|ack|timeout) ([0-9]+): ([A-Za-z]+)")
 LEFT_OUT = re.compile(r"(?:left out (\S+): )?(refused (\S+) .*|device.*)")
 DONE, REFUSED, IN_PART = 0, 1, 7
 
 
 @dataclasses.dataclass(frozen=True)
 class Request:
-    """An answer that `want` asks for: whom to ask, the path, and the folder and the file for it."""
+    """An answer that `want` or `messages` asks for: whom to ask, the path, and the folder and the file for it."""
 
     chain: str
     path: str
@@ -52,13 +56,28 @@ class Refusal:
 
 
 @dataclasses.dataclass(frozen=True)
-class Message:
-    """A client message that `messages` wrote: its file, the height of its header, the client, and the number of its transaction."""
+class Packet:
+    """A message on a packet: its kind, its path and its sequence."""
 
-    file: pathlib.Path
-    height: int
-    client: str
-    transaction: int
+    kind: str
+    path: str
+    sequence: int
+
+    @property
+    def name(self) -> str:
+        """The packet's name among what failed."""
+        return f"{self.path} {self.sequence}"
+
+    def __str__(self) -> str:
+        return f"{self.kind} {self.name}"
+
+
+@dataclasses.dataclass(frozen=True)
+class Made:
+    """What `messages` made: the files of transactions by their client and their number, and the packet messages that it left out, with the reason."""
+
+    transactions: dict[tuple[str, int], pathlib.Path] = dataclasses.field(default_factory=dict)
+    lost: dict[Packet, str] = dataclasses.field(default_factory=dict)
 
 
 @dataclasses.dataclass(frozen=True)
@@ -83,10 +102,21 @@ class ClientPlan:
     def is_too_big(self) -> bool:
         return self.planned is not None and "too_big" in self.planned
 
-    def transaction(self, number: int) -> ibcplan.Transaction | None:
-        """The transaction of the plan's batch that has a number, from 1 on."""
-        found = self.planned.get("transactions", []) if self.planned else []
-        return found[number - 1] if 0 < number <= len(found) else None
+    @property
+    def packets(self) -> list[Packet]:
+        return [Packet(each["kind"], each["path"], each["sequence"]) for each in self.planned["messages"]] if self.planned else []
+
+    @property
+    def is_due(self) -> bool:
+        return bool(self.updates or self.packets)
+
+    def transactions(self) -> list[tuple[list[ibcplan.Update], list[Packet]]]:
+        """The updates and the packet messages of each transaction of the plan's batch."""
+        found, updates, packets = [], self.updates, self.packets
+        for each in self.planned.get("transactions", []) if self.planned else []:
+            first, end = each["first"], each["first"] + each["count"]
+            found.append((updates[first:end], packets[max(first - len(updates), 0):max(end - len(updates), 0)]))
+        return found
 
 
 class Planner:
@@ -94,6 +124,7 @@ class Planner:
 
     def __init__(self, config: Config) -> None:
         self.words, self.calls = config.program, 0
+        self.verified = ["--verified"] if config.is_verified else []
 
     def run(self, *words: str, statuses: tuple[int, ...] = (DONE,)) -> tuple[int, str, str]:
         """The status of a call, and what it writes to both outputs."""
@@ -110,15 +141,11 @@ class Planner:
     def want(self, setup: pathlib.Path, folder: pathlib.Path) -> tuple[list[Request], dict[str, str]]:
         """What to ask for, and why no more is asked for a client or a path."""
         _, output, error = self.run("want", str(setup), str(folder))
-        lines = [GET.fullmatch(line) for line in output.splitlines() if line.startswith("get ")]
-        if not all(lines):
-            raise Fault("ibcplan want wrote a line of another form: is it of another version?", 4)
-        requests = [Request(m[1], m[2], m[3], m[4], m[5] or "") for m in lines if m]
-        return requests, dict(line.removeprefix("end ").split(": ", 1) for line in error.splitlines() if line.startswith("end ") and ": " in line)
+        return requests_in(output), dict(line.removeprefix("end ").split(": ", 1) for line in error.splitlines() if line.startswith("end ") and ": " in line)
 
-    def script_of(self, setup: pathlib.Path, folder: pathlib.Path, is_verified: bool) -> tuple[str, dict[str, Refusal]]:
+    def script_of(self, setup: pathlib.Path, folder: pathlib.Path) -> tuple[str, dict[str, Refusal]]:
         """The script of answers, empty where nothing is left, and what is left out of it; the whole has the name ""."""
-        status, output, error = self.run("import", *(["--verified"] if is_verified else []), str(setup), str(folder), statuses=(DONE, REFUSED, IN_PART))
+        status, output, error = self.run("import", *self.verified, str(setup), str(folder), statuses=(DONE, REFUSED, IN_PART))
         return output if status != REFUSED else "", left_out_in(error, folder)
 
     def plan(self, script: pathlib.Path) -> dict[str, ClientPlan]:
@@ -130,10 +157,27 @@ class Planner:
         ends = {end["id"]: end for end in report["clients"]}
         return {client["id"]: plan_of(client, ends[client["id"]]) for client in report["turns"][-1]["clients"]}
 
-    def messages(self, script: pathlib.Path, folder: pathlib.Path, made: pathlib.Path) -> list[Message]:
-        """Writes the messages of the last turn's batches."""
-        found = map(MESSAGE.fullmatch, self.run("messages", str(script), str(folder), str(made))[1].splitlines())
-        return [Message(made / m[1], int(m[2]), m[3], int(m[4])) for m in found if m]
+    def messages(self, setup: pathlib.Path, folder: pathlib.Path, made: pathlib.Path) -> tuple[int, str, str]:
+        """Makes the updates and the transactions of a setup's batches, or asks for the proofs that it needs before."""
+        return self.run("messages", *self.verified, str(setup), str(folder), str(made), statuses=(DONE, IN_PART))
+
+
+def made_in(made: pathlib.Path, output: str, error: str) -> Made:
+    """What `messages` made in a folder, by what it wrote to both outputs."""
+    found = Made()
+    for match in filter(None, map(TRANSACTION.fullmatch, output.splitlines())):
+        found.transactions[match[2], int(match[3])] = made / match[1]
+    for match in filter(None, map(LOST.fullmatch, error.splitlines())):
+        found.lost[Packet(match[2], match[1], int(match[3]))] = match[4]
+    return found
+
+
+def requests_in(output: str) -> list[Request]:
+    """The requests in the lines of `want` or `messages`."""
+    lines = [GET.fullmatch(line) for line in output.splitlines() if line.startswith("get ")]
+    if not all(lines):
+        raise Fault("ibcplan asks in a line of another form: is it of another version?", 4)
+    return [Request(m[1], m[2], m[3], m[4], m[5] or "") for m in lines if m]
 
 
 def plan_of(client: ibcplan.Client, end: ibcplan.Health) -> ClientPlan:
@@ -158,6 +202,38 @@ def left_out_in(text: str, folder: pathlib.Path) -> dict[str, Refusal]:
     return found
 
 
+# ---- packets
+
+
+@dataclasses.dataclass(frozen=True)
+class Waiting:
+    """A packet that waits: where it was sent, how many blocks ago, and for what it waits."""
+
+    path: str
+    sequence: int
+    height: int
+    age_blocks: int
+    waits_for: str
+    is_due: bool
+
+
+def packets_in(script: str, heights: Mapping[str, int], due: Mapping[tuple[str, int], str]) -> dict[tuple[str, int], Waiting]:
+    """The packets that a script tells of, and that aren't cleared, by their paths and sequences; beside the heights of the paths' sources, and the kinds of
+    the messages that are due."""
+    events = Fields(tomllib.loads(script)).objects("turn")[-1].objects("event")
+    by_kind: dict[str, dict[tuple[str, int], int]] = {}
+    for event in events:
+        key = event.text("path") or "", event.number("seq") or 0
+        by_kind.setdefault(event.text("kind") or "", {})[key] = event.number("height") or 0
+    found = {}
+    for key, height in by_kind.get("sent", {}).items():
+        if key not in by_kind.get("cleared", ()):
+            waits_for = "acknowledgement" if key in by_kind.get("ack", ()) else "its acknowledgement's writing" if key in by_kind.get("received", ()) else "receive"
+            kind = due.get(key)
+            found[key] = Waiting(*key, height, max(heights.get(key[0], 0) - height, 0), "timeout" if kind == "timeout" else waits_for, kind is not None)
+    return found
+
+
 # ---- setups
 
 
@@ -172,22 +248,33 @@ class Window:
         return {"from": stamp_of(self.begin), "until": stamp_of(self.end)}
 
 
-def client_data(client: Client, config: Config) -> dict[str, ibcplan.Data]:
+def chain_data(chain: Chain, account: str) -> dict[str, ibcplan.Data]:
+    """A chain, with how transactions to it are paid where there is an account."""
+    if chain.sender is None or not account:
+        return {"id": chain.id}
+    price, denom = chain.sender.price
+    factor = fractions.Fraction(str(chain.sender.gas_factor))
+    return {"id": chain.id, "signer": account, "fee_denom": denom, "gas_price": price.as_integer_ratio(), "gas_factor": factor.as_integer_ratio()}
+
+
+def client_data(client: Client, config: Config, is_alone: bool) -> dict[str, ibcplan.Data]:
+    """A client, of whose messages each gets a transaction of its own where that is asked for."""
     host = config.chain(client.host)
+    gas, messages, own = host.limits
     refresh: dict[str, ibcplan.Data] = {"refresh_ns": client.refresh_seconds * 10**9} if client.refresh_seconds else {}
-    return {"id": client.name, "host": client.host, "of": client.of, **refresh, "fee": host.fee, "gas": host.gas, "limits": host.limits}
+    return {"id": client.name, "host": client.host, "of": client.of, **refresh, "fee": host.fee, "gas": host.gas, "limits": (gas, 1 if is_alone else messages, own)}
 
 
 def path_data(path: Path) -> dict[str, ibcplan.Data]:
     return {"id": path.name, "source": path.source.chain, "dest": path.dest.chain, "order": path.order, "first": path.first, "forward": path.forward,
-            "back": path.back, "gas": [200_000, 150_000, 150_000], "port": path.source.port, "channel": path.source.channel,
+            "back": path.back, "gas": path.gas, "wait_ns": [seconds * 10**9 for seconds in path.wait], "port": path.source.port, "channel": path.source.channel,
             "counterparty_port": path.dest.port, "counterparty_channel": path.dest.channel}
 
 
-def setup_text(config: Config, clients: list[Client], paths: list[Path], windows: dict[str, Window]) -> str:
-    """The setup of clients and paths, for updates that arrive in the windows of the clients' hosts."""
+def setup_text(config: Config, clients: list[Client], paths: list[Path], windows: dict[str, Window], accounts: dict[str, str], alone: set[str]) -> str:
+    """The setup of clients and paths, for what arrives in the windows of the clients' hosts; of those that send alone, each message has its transaction."""
     chains = list(dict.fromkeys(name for client in clients for name in (client.host, client.of)))
     turn = min(windows.values(), key=lambda window: window.begin).data()
     turn["window"] = [{"host": host, **window.data()} for host, window in windows.items()]
-    return ibcplan.text_of({"version": 1, "chain": [{"id": name} for name in chains], "client": [client_data(client, config) for client in clients],
-                            "path": [path_data(path) for path in paths], "turn": [turn]})
+    return ibcplan.text_of({"version": 1, "chain": [chain_data(config.chain(name), accounts.get(name, "")) for name in chains],
+                            "client": [client_data(client, config, client.name in alone) for client in clients], "path": [path_data(path) for path in paths], "turn": [turn]})

@@ -1,4 +1,4 @@
-"""A round: each host's window by its own block time, answers fetched and verified, imported and planned by the proved program, and updates sent."""
+"""A round: each host's window by its own block time, answers fetched and verified, imported and planned by the proved program, and transactions sent."""
 import dataclasses
 import fcntl
 import pathlib
@@ -8,19 +8,23 @@ import typing
 
 from relayer.answers import PAGES, AnswerFolder
 from relayer.clock import Clock
-from relayer.config import Client, Config
-from relayer.fetch import Fetcher
+from relayer.config import Client, Config, Path
+from relayer.fetch import SEARCH, Fetcher
 from relayer.metrics import Metrics
-from relayer.node import Kind, pause_after
-from relayer.planner import ClientPlan, Message, Planner, Refusal, Window, setup_text
-from relayer.send import Ending, Senders, Sent, Step
+from relayer.node import LONGEST_PAUSE, Kind, pause_after
+from relayer.planner import ClientPlan, Made, Packet, Planner, Refusal, Waiting, Window, made_in, packets_in, setup_text
+from relayer.send import Ending, Failed, Senders, Sent, Step, account_of, told_of
 from relayer.sources import Sources, Standing
-from relayer.state import read_state
+from relayer.state import Failure, Transaction, read_state
 from relayer.values import stamp_of
 from relayer.verify import Doubt
 from relayer.words import Fault, Log, shown
 
 IMPORTS = 4  # tries to import answers of which some are refused
+PLANS = 3  # tries to plan without packets whose messages can't be made
+SET_ASIDE = 3  # failures after which a packet waits for long
+BEHIND = "Behind"  # of a message behind another one that can't be made
+LONGEST = 86_400  # seconds that a packet waits at most
 STUCK = "nothing goes on"  # of an end that `want` tells: no header leads the client further
 # refusals that tell of the client or the configuration, and not of a source
 BLAMELESS = {"FrozenClient", "UnsupportedClient", "ForeignKey", "OtherRevision", "ScriptTooBig", "MissingClientState", "MissingConsensusStates", "MissingCommitments"}
@@ -45,20 +49,23 @@ class Outcome:
             return "failed"
         if Ending.OPEN in endings or Ending.LAPSED in endings:
             return "open"
-        if self.plan.updates:
-            return "updated" if Ending.INCLUDED in endings else "due"
+        if self.plan.is_due:
+            return "due" if Ending.INCLUDED not in endings else "updated" if self.plan.updates else "relayed"
         return self.plan.outcome
 
 
 @dataclasses.dataclass
 class Report:
-    """A round: its clients, its seconds, the requests and calls that it took, and the standings of the chains."""
+    """A round: its clients, its seconds, the requests and calls that it took, the standings of the chains, the packets that wait, and why those of a path
+    aren't known."""
 
     clients: list[Outcome]
     seconds: float
     requests: int
     calls: int
     standings: dict[str, Standing]
+    waiting: list[Waiting]
+    unknown: dict[str, str]
 
 
 def locked(folder: pathlib.Path) -> typing.IO[bytes]:
@@ -86,7 +93,7 @@ class Relayer:
         self.state = read_state(config.folder / "state.json")
         self.senders = Senders(config, self.sources, self.state, clock, self.stop, log, self.tell)
         self.outcomes: dict[str, Outcome] = {}  # of the clients' last rounds
-        self.pauses: dict[str, tuple[int, float]] = {}  # of clients whose transactions failed: how often in a row, and until when they wait
+        self.accounts: dict[str, str] = {}  # of hosts: the addresses that sign
 
     def close(self) -> None:
         self.senders.wait()
@@ -100,23 +107,24 @@ class Relayer:
         outcomes = {client.name: Outcome(client) for client in self.config.clients if client.host in hosts}
         self.settle_open(hosts)
         self.outcomes |= outcomes
-        self.begin([outcome.client for outcome in outcomes.values()])
-        found = Round(self, outcomes)
-        found.make()
+        paths = [path for path in self.config.paths if not set(path.clients).isdisjoint(outcomes)]
+        names = {name for path in paths for name in path.clients} | {*outcomes}
+        clients = [client for client in self.config.clients if client.name in names]
+        chains = list(dict.fromkeys(name for client in clients for name in (client.host, client.of)))
+        for source in self.sources.all():
+            source.begin_round()
+        self.folder.begin_round(chains, [client.name for client in clients], [path.name for path in paths])
+        self.fetcher.floors = dict(self.state.blocks)
+        self.fetcher.begin_round(chains)
+        found = Round(self, outcomes, paths)
+        found.make(is_dry)
         if not is_dry:
             for host in hosts:
                 found.send(host)
         for source in self.sources.all():
             source.end_round()
-        return Report(list(outcomes.values()), self.clock.seconds() - begin, self.sources.requests() - requests, self.planner.calls - calls, dict(self.fetcher.standings))
-
-    def begin(self, clients: list[Client], paths: list[str] | None = None) -> None:
-        """Begins a round for clients, and asks where their chains stand."""
-        chains = list(dict.fromkeys(name for client in clients for name in (client.host, client.of)))
-        for source in self.sources.all():
-            source.begin_round()
-        self.folder.begin_round(chains, [client.name for client in clients], paths or [])
-        self.fetcher.begin_round(chains)
+        return Report(list(outcomes.values()), self.clock.seconds() - begin, self.sources.requests() - requests, self.planner.calls - calls,
+                      dict(self.fetcher.standings), [*found.waiting.values()], found.unknown)
 
     def window(self, host: str) -> Window:
         """The moments of a host's blocks in which updates of a round arrive."""
@@ -132,49 +140,89 @@ class Relayer:
             if sent.ending is not Ending.OPEN:
                 self.tell(sent)
 
-    def paused_until(self, client: str) -> float:
-        return self.pauses.get(client, (0, 0.0))[1]
+    def account(self, host: str) -> str:
+        """The address that signs for a host; without a program none."""
+        chain = self.config.chain(host)
+        if host not in self.accounts and chain.sender is not None:
+            self.accounts[host] = account_of(chain.sender)
+        return self.accounts.get(host, "")
+
+    def seconds_left(self, name: str) -> float:
+        """How many seconds a client or a packet waits that failed."""
+        failure = self.state.failures.get(name)
+        return max(failure.until - self.clock.now(), 0) / 10**9 if failure else 0
+
+    def fail(self, name: str, why: str, longest: int = 0) -> None:
+        """Lets a client or a packet wait for a while, which grows with each failure; a packet for long from its third one on."""
+        before = self.state.failures.get(name)
+        count = before.count + 1 if before else 1
+        seconds = pause_after(count + 1) if count < SET_ASIDE or not longest else min(LONGEST_PAUSE * 2 ** (count - SET_ASIDE), longest)
+        self.state.fail(name, Failure(count, self.clock.now() + int(seconds * 10**9), why or "-"))
+
+    def set_aside(self, packet: Packet, why: str) -> None:
+        """Lets a packet wait whose message failed alone, or can't be made."""
+        self.log.warn("packet failed", packet=str(packet), why=why)
+        self.fail(packet.name, f"{packet.kind}: {why}", LONGEST)
+        for chain in (name for path in self.config.paths if path.name == packet.path for name in path.chains):
+            self.sources.prefer_another(chain, Kind.NODE)  # the one that told of it may lie
 
     def tell(self, sent: Sent) -> None:
-        """Tells what became of a transaction; after one that failed its client waits for a while, longer each time."""
-        outcome = self.outcomes.get(sent.client)
-        if outcome is not None:
+        """Tells what became of a transaction; after one that failed its client waits for a while, or the packet if it is that one's alone."""
+        transaction = sent.transaction
+        if outcome := self.outcomes.get(transaction.client):
             outcome.sent.append(sent)
         for client in self.config.clients:
-            if client.name == sent.client:
+            if client.name == transaction.client:
                 self.count(client, sent)
-        if sent.ending is Ending.FAILED:
-            count = self.pauses.get(sent.client, (0, 0.0))[0] + 1
-            self.pauses[sent.client] = count, self.clock.seconds() + pause_after(count + 1)
-        elif sent.ending is Ending.INCLUDED:
-            self.pauses.pop(sent.client, None)
-            self.folder.drop_all(sent.client, PAGES)
         say = self.log.warn if sent.ending is Ending.FAILED else self.log.info
-        say("transaction", ending=sent.ending.value, client=sent.client, heights=sent.heights, hash=sent.hash or None, words=sent.words or None, gas_used=sent.gas_used or None)
+        say("transaction", **told_of(transaction), ending=sent.ending.value, words=sent.words or None, gas_used=sent.gas_used or None)
+        if sent.has_failed_alone:
+            self.set_aside(transaction.packets[0], sent.words)
+        elif sent.ending is Ending.FAILED:
+            self.fail(transaction.client, sent.words)
+        elif sent.ending is Ending.INCLUDED:
+            for name in transaction.client, *(packet.name for packet in transaction.packets):
+                self.state.fail(name, None)
+            if transaction.heights:
+                self.folder.drop_all(transaction.client, PAGES)
 
     def count(self, client: Client, sent: Sent) -> None:
         self.metrics.add("ibcplan_relayer_transactions_total", 1, host=client.host, ending=sent.ending.value)
         if sent.ending is Ending.INCLUDED:
-            self.metrics.add("ibcplan_relayer_updates_total", len(sent.heights), **client.labels)
-            self.metrics.add("ibcplan_relayer_fees_total", sent.fee, **client.labels)
+            self.metrics.add("ibcplan_relayer_updates_total", len(sent.transaction.heights), **client.labels)
+            self.metrics.add("ibcplan_relayer_fees_total", sent.transaction.fee, **client.labels)
+            for packet in sent.transaction.packets:
+                self.metrics.add("ibcplan_relayer_packets_total", 1, path=packet.path, kind=packet.kind)
 
 
 class Round:
     """The plans of a round, and the steps that they take at each host."""
 
-    def __init__(self, relayer: Relayer, outcomes: dict[str, Outcome]) -> None:
-        self.relayer, self.config, self.outcomes = relayer, relayer.config, outcomes
+    def __init__(self, relayer: Relayer, outcomes: dict[str, Outcome], paths: list[Path]) -> None:
+        self.relayer, self.config, self.outcomes, self.paths = relayer, relayer.config, outcomes, paths
         self.fetcher, self.planner, self.folder, self.standings = relayer.fetcher, relayer.planner, relayer.folder, relayer.fetcher.standings
         self.place = relayer.config.folder / "round"
         self.steps: dict[str, list[Step]] = {}
         self.asked: set[tuple[str, str]] = set()  # files about clients, and the addresses that gave them
+        self.accounts: dict[str, str] = {}  # of hosts
+        self.whys: dict[str, str] = {}  # why nothing is sent to hosts
+        self.waiting: dict[tuple[str, int], Waiting] = {}
+        self.unknown: dict[str, str] = {}
 
-    def make(self) -> None:
-        """Plans for the clients of which nothing speaks against it, of all hosts together: each host has a window of its own."""
+    def make(self, is_dry: bool) -> None:
+        """Plans for the clients of which nothing speaks against it, of all hosts together: each host has a window of its own. If it isn't dry, it makes
+        transactions to the hosts that have a program."""
         shutil.rmtree(self.place, ignore_errors=True)
         for outcome in self.outcomes.values():
             outcome.why = self.why_not(outcome.client)
-        if clients := [outcome.client for outcome in self.outcomes.values() if not outcome.why]:
+        clients = [outcome.client for outcome in self.outcomes.values() if not outcome.why]
+        for host in [] if is_dry else dict.fromkeys(client.host for client in clients):
+            try:
+                if account := self.relayer.account(host):
+                    self.accounts[host] = account
+            except Failed as failed:
+                self.whys[host] = str(failed)
+        if clients:
             self.make_for(clients)
         stuck = {outcome.client.of for outcome in self.outcomes.values() if outcome.why.startswith(STUCK) or outcome.plan and outcome.plan.outcome == "unreachable"}
         for chain in stuck:
@@ -190,7 +238,7 @@ class Round:
             return f"{client.host} stands still, its last block is of {stamp_of(host.nanos)}"
         if any(transaction.client == client.name for transaction in self.relayer.state.of_host(client.host)):
             return "the inclusion of a transaction is open"
-        return "it waits after a transaction that failed" if self.relayer.clock.seconds() < self.relayer.paused_until(client.name) else ""
+        return "it waits after a transaction that failed" if self.relayer.seconds_left(client.name) else ""
 
     def make_for(self, clients: list[Client]) -> None:
         """Plans for clients together. Where that fails they are planned for in halves, so that a fault costs the client alone that brings it."""
@@ -206,39 +254,45 @@ class Round:
             self.make_for(clients[middle:])
 
     def plan(self, clients: list[Client]) -> None:
-        place = self.place / clients[0].name / str(len(clients))
-        place.mkdir(parents=True)
-        text, left_out, since = self.script_for(clients, place / "setup.toml")
-        if not text:
-            return
-        script = place / "script.toml"
-        script.write_text(text)
-        plans = self.planner.plan(script)
-        is_any = any(plan.updates and not plan.is_too_big for plan in plans.values())
-        made = self.planner.messages(script, self.folder.folder, place / "messages") if is_any else []
-        planned = [client for client in clients if client.name not in left_out]
-        steps = [step for client in planned
-                 for step in self.steps_of(client, plans[client.name], since[client.host], [message for message in made if message.client == client.name])]
+        """Plans for clients, and makes their transactions. Packets whose messages can't be made are set aside, and it plans anew."""
+        for number in range(PLANS):
+            place = self.place / clients[0].name / f"{len(clients)}-{number}"
+            place.mkdir(parents=True)
+            text, left_out, since = self.script_for(clients, place / "setup.toml")
+            if not text:
+                return
+            script = place / "script.toml"
+            script.write_text(text)
+            plans = self.planner.plan(script)
+            planned = [client for client in clients if client.name not in left_out]
+            is_any = any(plans[client.name].is_due and not plans[client.name].is_too_big and client.host in self.accounts for client in planned)
+            made = made_in(place / "messages", *self.fetcher.messages(place / "setup.toml", place / "messages")[1:]) if is_any else Made()
+            for packet, why in made.lost.items():
+                if why != BEHIND:
+                    self.relayer.set_aside(packet, why)
+            if not made.lost:
+                break
+        steps = [step for client in planned for step in self.steps_of(client, plans[client.name], since[client.host], made)]
         for client in planned:
             self.outcomes[client.name].plan, self.outcomes[client.name].until = plans[client.name], since[client.host].nanos + self.config.window_nanos
         for step in steps:
-            self.steps.setdefault(step.client.host, []).append(step)
+            self.steps.setdefault(step.transaction.host, []).append(step)
+        due = {(packet.path, packet.sequence): packet.kind for plan in plans.values() for packet in plan.packets}
+        waiting = packets_in(text, {path.name: self.standings[path.source.chain].height for path in self.paths_of(clients)}, due)
+        self.waiting |= waiting
+        for path in self.paths_of(clients):  # failures of packets that are over
+            over = set(self.failed(path)).difference(self.aside(path), (sequence for name, sequence in waiting if name == path.name))
+            for sequence in over if path.name not in self.unknown else ():
+                self.relayer.state.fail(f"{path.name} {sequence}", None)
 
-    def steps_of(self, client: Client, plan: ClientPlan, since: Standing, made: list[Message]) -> list[Step]:
-        """A step for each transaction of a plan, in its order; after one that failed a step for each update."""
-        fees = {update["height"]: update["fee"] for update in plan.updates}
-        is_alone = client.name in self.relayer.pauses
-        groups: dict[tuple[int, int], list[Message]] = {}
-        for place, message in enumerate(made):
-            groups.setdefault((message.transaction, place if is_alone else 0), []).append(message)
+    def steps_of(self, client: Client, plan: ClientPlan, since: Standing, made: Made) -> list[Step]:
+        """A step for each transaction of a plan, in its order."""
         steps = []
-        for (number, _), group in groups.items():
-            transaction = plan.transaction(number)
-            if transaction is None:
-                raise Fault(f"ibcplan messages names another transaction: {shown(client.name)} {number}", 4)
-            heights = tuple(message.height for message in group)
-            steps.append(Step(client, tuple(message.file.read_bytes() for message in group), heights, transaction["gas"],
-                              sum(fees.get(height, 0) for height in heights), since))
+        for number, (updates, packets) in enumerate(plan.transactions(), 1):
+            if file := made.transactions.get((client.name, number)):
+                heights, fee = tuple(update["height"] for update in updates), sum(update["fee"] for update in updates)
+                sent = tuple(packet for packet in packets if packet not in made.lost)
+                steps.append(Step(Transaction(client.host, client.name, heights, sent, fee), file.read_bytes(), since))
         return steps
 
     # ---- answers
@@ -247,22 +301,31 @@ class Round:
         """The script of the answers, what is left out of it, and where the hosts stand. Sources of refused answers are left, and others asked, a few times;
         likewise a node that told of a block that isn't there."""
         text, left_out, standings = "", dict[str, Refusal](), dict[str, Standing]()
-        hosts = list(dict.fromkeys(client.host for client in clients))
         for _ in range(IMPORTS):
-            for host in hosts:
-                if host not in self.standings:
-                    raise Fault(f"no node of {host} answers")
-            standings = {host: self.standings[host] for host in hosts}
-            self.fetcher.floors |= {client.name: self.relayer.state.floor(client.name, standings[client.host].height) for client in clients}
-            setup.write_text(setup_text(self.config, clients, [], {host: self.relayer.window(host) for host in hosts}))
-            ends = self.fetcher.fetch(setup)
+            for name in {client.host for client in clients} - self.standings.keys():
+                raise Fault(f"no node of {name} answers")
+            paths = self.paths_of(clients)
+            names = {client.name for client in clients} | {name for path in paths for name in path.clients}
+            all_clients = [client for client in self.config.clients if client.name in names]
+            standings = {host: self.standings[host] for host in dict.fromkeys(client.host for client in all_clients)}
+            windows = {host: self.relayer.window(host) for host in standings}
+            accounts = {host: self.accounts[host] for host in {client.host for client in clients} & self.accounts.keys()}
+            aside = [(path.name, sequence) for path in paths for sequence in self.aside(path)]
+            self.fetcher.aside = {f"{name}/sent-{sequence}" for name, sequence in aside}
+            for name, sequence in aside:
+                self.folder.drop_packet(name, sequence)
+            setup.write_text(setup_text(self.config, all_clients, paths, windows, accounts, {client.name for client in clients if self.is_alone(client)}))
+            ends = self.fetcher.fetch(setup, [path.name for path in paths])
             for client in clients:
                 self.outcomes[client.name].why = ends.get(client.name, "")
-            if standings != {host: self.standings.get(host) for host in hosts}:
+            self.unknown |= {path.name: "a node of its chains doesn't answer" for path in self.paths if path not in paths}
+            self.unknown |= {path.name: ends[path.name] for path in paths if path.name in ends}
+            if standings != {host: self.standings.get(host) for host in standings}:
                 continue
-            text, left_out = self.planner.script_of(setup, self.folder.folder, self.fetcher.verifier is not None)
+            text, left_out = self.planner.script_of(setup, self.folder.folder)
             if not self.doubted(left_out):
                 break
+        self.unknown |= {path.name: left_out[path.name].words for path in self.paths if path.name in left_out}
         for client in clients:
             refusal, outcome = left_out.get(client.name) or left_out.get(""), self.outcomes[client.name]
             if (client.host, Kind.GATEWAY) in self.fetcher.down and refusal:
@@ -271,14 +334,33 @@ class Round:
                 outcome.why = outcome.why or shown(refusal.words)
         return text, left_out, standings
 
+    def paths_of(self, clients: list[Client]) -> list[Path]:
+        """The paths that clients serve and of whose chains nodes answer."""
+        return [path for path in self.paths if any(client.name in path.clients for client in clients) and self.standings.keys() >= {*path.chains}]
+
+    def failed(self, path: Path) -> list[int]:
+        """The packets of a path of which messages failed."""
+        return [int(name.rpartition(" ")[2]) for name in [*self.relayer.state.failures] if name.rpartition(" ")[0] == path.name]
+
+    def aside(self, path: Path) -> list[int]:
+        """Those that wait."""
+        return [sequence for sequence in self.failed(path) if self.relayer.seconds_left(f"{path.name} {sequence}")]
+
+    def is_alone(self, client: Client) -> bool:
+        """Whether each message of a client gets a transaction of its own: after one of its transactions failed, and where a packet is tried again."""
+        of_client = [path for path in self.paths if client.name in path.clients]
+        return client.name in self.relayer.state.failures or any(len(self.failed(path)) > len(self.aside(path)) for path in of_client)
+
     def doubted(self, left_out: dict[str, Refusal]) -> bool:
         """Whether answers were dropped, so that others are to be asked: those that can't be, whose sources are left, and those by which a client is frozen
-        or no Tendermint client, until all gateways have said so."""
+        or no Tendermint client, until all gateways have said so. A search that can't be used is left out."""
         is_dropped = False
         for refusal in left_out.values():
             for file in refusal.files:
                 source = self.folder.origins.get(file)
-                if refusal.name not in BLAMELESS:
+                if SEARCH.fullmatch(file):
+                    self.fetcher.leave_search(file)
+                elif refusal.name not in BLAMELESS:
                     self.fetcher.doubt(Doubt(file, f"import refuses it, {shown(refusal.name, 40)}"))
                     self.folder.drop_all(file.partition("/")[0], PAGES)
                 elif source is not None and (file, source.address) not in self.asked:
@@ -294,14 +376,12 @@ class Round:
 
     def send(self, host: str) -> None:
         """Begins to send a host's steps, or tells why they don't go."""
-        steps = self.steps.get(host)
-        if not steps:
-            return
-        why = "" if self.config.chain(host).sender else f"the configuration has no program for {host}"
+        why = self.whys.get(host, "") if self.config.chain(host).sender else f"the configuration has no program for {host}"
         if self.relayer.state.of_host(host):  # the account's next transaction would stand behind it
             why = f"the inclusion of a transaction to {host} is open"
         if why:
-            for step in steps:
-                self.outcomes[step.client.name].why = why
-        else:
-            self.relayer.senders.start(host, steps)
+            for outcome in self.outcomes.values():
+                if outcome.client.host == host and outcome.plan is not None and outcome.plan.is_due:
+                    outcome.why = why
+        elif host in self.steps:
+            self.relayer.senders.start(host, self.steps[host])

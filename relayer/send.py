@@ -1,4 +1,4 @@
-"""Makes, signs and broadcasts transactions by the chains' programs, and asks whether they were included. Hosts don't wait for one another."""
+"""Signs and broadcasts transactions by the chains' programs, and asks whether they were included. Hosts don't wait for one another."""
 import base64
 import binascii
 import dataclasses
@@ -6,21 +6,24 @@ import enum
 import hashlib
 import json
 import pathlib
+import re
 import subprocess
 import threading
 from collections.abc import Callable
 
 from relayer.answers import write_whole
 from relayer.clock import Clock
-from relayer.config import Chain, Client, Config, Sender
+from relayer.config import Chain, Config, Sender
 from relayer.node import Kind, Refused, SourceFailure
 from relayer.sources import Sources, Standing, Unavailable
-from relayer.state import Included, Open, State
-from relayer.values import Fields, fields_in
+from relayer.state import State, Transaction
+from relayer.values import fields_in
 from relayer.words import Fault, Log, shown
 
 SECONDS = 60  # that a call of a chain's program may take
 IN_CACHE = 19  # cosmos-sdk's code of a transaction that is in the mempool already
+ADDRESS = re.compile(r"[a-z0-9]{1,60}1[02-9ac-hj-np-z]{38,64}")  # bech32
+KEYRING = "--keyring-backend", "--keyring-dir", "--home"  # the options that say where keys are; others are of signing alone
 INDEX_BLOCKS = 2  # by which a node's index of transactions may be behind
 
 
@@ -36,14 +39,10 @@ class Ending(enum.Enum):
 
 @dataclasses.dataclass(frozen=True)
 class Step:
-    """What a transaction carries: messages for a client, which bring it to these heights; their gas and their fee by the plan, and where the host stood
-    when that was made."""
+    """A transaction that isn't signed yet, its text, and where the host stood when it was planned."""
 
-    client: Client
-    messages: tuple[bytes, ...]
-    heights: tuple[int, ...]
-    gas: int
-    fee: int
+    transaction: Transaction
+    text: bytes
     since: Standing
 
 
@@ -51,13 +50,15 @@ class Step:
 class Sent:
     """A transaction, and what became of it."""
 
-    client: str
-    heights: tuple[int, ...]
-    hash: str
+    transaction: Transaction
     ending: Ending
     words: str = ""
-    fee: int = 0
     gas_used: int = 0
+
+    @property
+    def has_failed_alone(self) -> bool:
+        """Whether it is the failure of a packet, and not of its client."""
+        return self.ending is Ending.FAILED and self.transaction.is_of_a_packet and self.transaction.hash != ""
 
 
 class Failed(Exception):
@@ -104,12 +105,9 @@ class Senders:
 
     # ---- inclusion
 
-    def settle(self, transaction: Open) -> Sent:
+    def settle(self, transaction: Transaction) -> Sent:
         """Asks what became of an open transaction, and closes it where that is known: where a node knows it, or none does though no block can have it any
         more. Nodes that stand still aren't asked, and those without an index only if no other is there."""
-        def ended(ending: Ending, words: str = "", gas: int = 0) -> Sent:
-            return Sent(transaction.client, transaction.heights, transaction.hash, ending, words, transaction.fee, gas)
-
         found = [(source, standing[0]) for source in self.sources.usable(transaction.host, Kind.NODE) if (standing := self.sources.standing(source))]
         moving = [pair for pair in found if not self.sources.is_still(pair[1])]
         words = f"{transaction.host} stands still" if found else f"no node of {transaction.host} answers"
@@ -121,20 +119,19 @@ class Senders:
                 continue
             except SourceFailure as failure:
                 self.sources.fail(source, str(failure))
-                return ended(Ending.OPEN, str(failure))
+                return Sent(transaction, Ending.OPEN, str(failure))
             result, block = answer.object("tx_result"), answer.number("height")
             if (answer.text("hash") or "").upper() != transaction.hash or block is None:
-                return ended(Ending.OPEN, "a node answers of another transaction")
+                return Sent(transaction, Ending.OPEN, "a node answers of another transaction")
             code, gas = result.number("code") or 0, result.number("gas_used") or 0
+            self.state.close(transaction, min(block, transaction.last_block))  # a node may lie
             if code:
-                self.state.close(transaction)
-                return ended(Ending.FAILED, f"code {code}: {shown(result.text('log') or '', 200)}", gas)
-            self.state.close(transaction, Included(max(transaction.heights, default=0), block))
-            return ended(Ending.INCLUDED, gas=gas)
+                return Sent(transaction, Ending.FAILED, f"code {code}: {shown(result.text('log') or '', 200)}", gas)
+            return Sent(transaction, Ending.INCLUDED, gas_used=gas)
         if not asked or any(standing.height <= transaction.last_block + INDEX_BLOCKS for _, standing in asked):
-            return ended(Ending.OPEN, words)
+            return Sent(transaction, Ending.OPEN, words)
         self.state.close(transaction)
-        return ended(Ending.LAPSED, f"no block up to {transaction.last_block} has it: {words}")
+        return Sent(transaction, Ending.LAPSED, f"no block up to {transaction.last_block} has it: {words}")
 
 
 class HostSender:
@@ -145,46 +142,47 @@ class HostSender:
         self.folder = senders.config.folder / "sending" / chain.id
 
     def run(self, steps: list[Step]) -> None:
-        """Sends step by step. Behind one that isn't included its client's steps don't go; behind one that is open none does, as its account is the same."""
+        """Sends step by step. Behind one that isn't included its client's steps don't go; behind a packet message that failed alone those of other packets
+        do, but on an ORDERED channel. Behind one that is open none does, as its account is the same."""
         ended: set[str] = set()
         for step in steps:
-            if step.client.name in ended or self.senders.stop.is_set():
+            transaction = step.transaction
+            if self.senders.stop.is_set() or not ended.isdisjoint((transaction.client, *(packet.path for packet in transaction.packets))):
                 continue
             try:
                 sent = self.send(step)
             except Fault as fault:  # of the state file: nothing is sent without it
-                sent = Sent(step.client.name, step.heights, "", Ending.HELD, str(fault))
+                sent = Sent(transaction, Ending.HELD, str(fault))
             self.senders.tell(sent)
             if sent.ending is Ending.FAILED:  # another gateway may know the client better
                 self.sources.prefer_another(self.chain.id, Kind.GATEWAY)
-            if sent.ending is not Ending.INCLUDED:
-                ended.add(step.client.name)
+            if sent.has_failed_alone:
+                ended |= {path.name for path in self.senders.config.paths if path.name == transaction.packets[0].path and path.order == "ordered"}
+            elif sent.ending is not Ending.INCLUDED:
+                ended.add(transaction.client)
             if sent.ending in (Ending.OPEN, Ending.HELD):
                 return
 
     def send(self, step: Step) -> Sent:
         """Sends a transaction that can be included for some blocks, and waits for it."""
-        def ended(ending: Ending, words: str, digest: str = "") -> Sent:
-            return Sent(step.client.name, step.heights, digest, ending, words, step.fee)
-
+        transaction = step.transaction
         try:
             standing = self.sources.first_standing(self.chain.id)
             until = step.since.nanos + self.senders.config.window_nanos
             if self.sources.is_still(standing) or standing.nanos > until:
-                return ended(Ending.HELD, f"{self.chain.id} stands still" if standing.nanos <= until else "the window of its plan is over")
+                return Sent(transaction, Ending.HELD, f"{self.chain.id} stands still" if standing.nanos <= until else "the window of its plan is over")
             last_block = min(standing.height, step.since.height + 10 * self.sender.open_blocks) + self.sender.open_blocks  # a node may lie
             signed = self.signed(step, last_block)
-            digest = self.hash_of(signed)
+            transaction = dataclasses.replace(transaction, hash=self.hash_of(signed), last_block=last_block)
         except Unavailable as error:
-            return ended(Ending.HELD, str(error))
+            return Sent(transaction, Ending.HELD, str(error))
         except Failed as failed:
-            return ended(Ending.FAILED, str(failed))
-        transaction = Open(self.chain.id, step.client.name, digest, step.heights, step.fee, last_block)
+            return Sent(transaction, Ending.FAILED, str(failed))
         self.senders.state.add(transaction)
-        self.senders.log.info("broadcast", host=self.chain.id, client=step.client.name, heights=step.heights, hash=digest)
+        self.senders.log.info("broadcast", **told_of(transaction))
         if words := self.broadcast(signed):
             self.senders.state.close(transaction)
-            return ended(Ending.FAILED, words, digest)
+            return Sent(transaction, Ending.FAILED, words)
         while True:
             sent = self.senders.settle(transaction)
             is_over = self.senders.clock.now() > until
@@ -194,31 +192,17 @@ class HostSender:
     # ---- the chain's program
 
     def signed(self, step: Step, last_block: int) -> pathlib.Path:
-        """The file of the signed transaction."""
+        """The file of the signed transaction, which blocks up to a height can have."""
         unsigned, signed = self.folder / "unsigned.json", self.folder / "signed.json"
-        made = [self.made(step, message, last_block) for message in step.messages]
-        write_whole(unsigned, json.dumps(joined(made)).encode())
+        transaction = fields_in(step.text)
+        transaction.object("body").value["timeout_height"] = str(last_block)
+        write_whole(unsigned, json.dumps(transaction.value).encode())
         signed.unlink(missing_ok=True)
-        self.run_program("sign", "tx", "sign", str(unsigned), *self.common(), "--output-document", str(signed))
+        run_program(self.sender, "sign", "tx", "sign", str(unsigned), "--from", self.sender.signer, "--chain-id", self.chain.id, "--node", self.node(), *self.sender.options,
+                    "--output-document", str(signed))
         if not signed.exists():
             raise Failed("sign wrote no transaction")
         return signed
-
-    def made(self, step: Step, message: bytes, last_block: int) -> dict[str, object]:
-        """The unsigned transaction of a message; its fee is that of the whole."""
-        file = self.folder / "message.json"
-        write_whole(file, message)
-        price = ("--gas-prices", self.sender.gas_price) if self.sender.gas_price else ()
-        gas = str(max(1, round(step.gas * self.sender.gas_factor)))
-        output = self.run_program("make", "tx", "ibc", "client", "update", step.client.id, str(file), *self.common(), "--gas", gas, *price,
-                                  "--timeout-height", str(last_block), "--generate-only", "--output", "json")
-        value = fields_in(output.encode()).value
-        if "body" not in value:
-            raise Failed("the unsigned transaction has no body")
-        return value
-
-    def common(self) -> tuple[str, ...]:
-        return ("--from", self.sender.signer, "--chain-id", self.chain.id, "--node", self.node(), *self.sender.options)
 
     def node(self) -> str:
         """The address of a node, as the chain's program takes it."""
@@ -232,7 +216,7 @@ class HostSender:
     def hash_of(self, signed: pathlib.Path) -> str:
         """The hash of a signed transaction, before it is broadcast."""
         try:
-            data = base64.b64decode(self.run_program("encode", "tx", "encode", str(signed)).strip(), validate=True)
+            data = base64.b64decode(run_program(self.sender, "encode", "tx", "encode", str(signed)).strip(), validate=True)
         except (binascii.Error, ValueError):
             raise Failed("encode wrote no base64") from None
         if not data:
@@ -242,7 +226,7 @@ class HostSender:
     def broadcast(self, signed: pathlib.Path) -> str:
         """Why the node refused the transaction; empty where it took it, or where that isn't known."""
         try:
-            output = self.run_program("broadcast", "tx", "broadcast", str(signed), "--node", self.node(), "--broadcast-mode", "sync", "--output", "json")
+            output = run_program(self.sender, "broadcast", "tx", "broadcast", str(signed), "--node", self.node(), "--broadcast-mode", "sync", "--output", "json")
         except Failed as failed:
             self.senders.log.warn("broadcast open", host=self.chain.id, why=str(failed))
             return ""
@@ -250,18 +234,29 @@ class HostSender:
         code = answer.number("code")
         return "" if code in (None, 0, IN_CACHE) else f"the node refused it, code {code}: {shown(answer.text('raw_log') or '', 200)}"
 
-    def run_program(self, what: str, *words: str) -> str:
-        try:
-            done = subprocess.run([*self.sender.program, *words], stdin=subprocess.DEVNULL, capture_output=True, timeout=SECONDS)
-        except (OSError, subprocess.TimeoutExpired) as error:
-            raise Failed(f"{what}: {shown(error, 200)}") from None
-        if done.returncode != 0:
-            raise Failed(f"{what} ended with status {done.returncode}: {shown(done.stderr.decode(errors='replace').strip()[-300:])}")
-        return done.stdout.decode(errors="replace")
+
+def told_of(transaction: Transaction) -> dict[str, object]:
+    """A transaction in the log and in reports."""
+    return {"client": transaction.client, "heights": transaction.heights, "packets": [*map(str, transaction.packets)], "hash": transaction.hash}
 
 
-def joined(made: list[dict[str, object]]) -> dict[str, object]:
-    """One unsigned transaction with the messages of several."""
-    messages = [message.value for each in made for message in Fields(each).object("body").objects("messages")]
-    Fields(made[0]).object("body").value["messages"] = messages
-    return made[0]
+def account_of(sender: Sender) -> str:
+    """The address of the account that signs; by the chain's program, if the signer is the name of a key."""
+    if ADDRESS.fullmatch(sender.signer):
+        return sender.signer
+    options = [word for place, word in enumerate(sender.options) if word.partition("=")[0] in KEYRING or place and sender.options[place - 1] in KEYRING]
+    address = run_program(sender, "keys show", "keys", "show", sender.signer, "--address", *options).strip()
+    if not ADDRESS.fullmatch(address):
+        raise Failed("keys show wrote no address")
+    return address
+
+
+def run_program(sender: Sender, what: str, *words: str) -> str:
+    """What the program of a chain writes."""
+    try:
+        done = subprocess.run([*sender.program, *words], stdin=subprocess.DEVNULL, capture_output=True, timeout=SECONDS)
+    except (OSError, subprocess.TimeoutExpired) as error:
+        raise Failed(f"{what}: {shown(error, 200)}") from None
+    if done.returncode != 0:
+        raise Failed(f"{what} ended with status {done.returncode}: {shown(done.stderr.decode(errors='replace').strip()[-300:])}")
+    return done.stdout.decode(errors="replace")

@@ -1,4 +1,5 @@
 """Signatures of commits, verified by the code of tools/verify_commits, each once; the verdicts stand in the folder for `import --verified`."""
+import contextlib
 import dataclasses
 import hashlib
 import importlib.machinery
@@ -32,59 +33,42 @@ class Verifier:
         self.folder, self.tool = folder, loaded_tool()
         self.commits = self.tool.signed_commits
         self.tool.tell = lambda line: log.warn("signatures", what=shown(line))
-        self.rows: dict[str, dict[str, Row]] = {}  # of chains: by the file of the commit
-        self.sets: dict[str, dict[str, Sets]] = {}  # of chains: by the height
+        self.rows: dict[str, dict[str, Row]] = {}  # of chains: by the digest of the commit's answer
 
     def check(self, chain: str) -> list[Doubt]:
         """Verifies the commits of a chain that weren't verified before, writes the verdicts, and returns what to doubt."""
-        place, saved = self.folder.file(chain), self.folder.take_saved(chain)
-        before = self.rows.get(chain)
-        written = verdicts_in(place / self.tool.NAME) if before is None else {}
+        place = self.folder.file(chain)
+        before = self.rows.get(chain) or verdicts_in(place / self.tool.NAME)
         found: dict[str, Row] = {}
         doubts: list[Doubt] = []
-        sets = self.sets_in(chain, saved)
+        sets: Sets | None = None
         for file in sorted(place.glob("commit-*.json"), key=height_of):
-            row: Row | None = before.get(file.name) if before and file.name not in saved else None
-            if row is None:
-                row, why = self.judge(chain, file, written, sets)
+            body = file.read_bytes()
+            digest = hashlib.sha256(body).hexdigest()
+            row = before.get(digest)
+            if row is None or row["answer"] != file.name:
+                sets = sets or self.sets_in(place)
+                row, why = self.judge(chain, file, body, digest, sets)
                 doubts += [Doubt(f"{chain}/{file.name}", why)] if why else []
             if row is not None:
-                found[file.name] = row
-        if found != before:
+                found[digest] = row
+        if found != self.rows.get(chain):
             self.rows[chain] = found
             write_whole(place / self.tool.NAME, self.tool.text_of(chain, list(found.values())).encode())
         return doubts
 
-    def sets_in(self, chain: str, saved: set[str]) -> Sets:
+    def sets_in(self, place: pathlib.Path) -> Sets:
         """The validator sets of a chain's folder."""
-        files: dict[str, list[pathlib.Path]] = {}
-        for file in sorted(self.folder.file(chain).glob("validators-*.json")):
-            files.setdefault(file.stem.split("-")[1], []).append(file)
-        before, found = self.sets.get(chain, {}), dict[str, Sets]()
-        for height, pages in files.items():
-            is_known = height in before and saved.isdisjoint(page.name for page in pages)
-            found[height] = before[height] if is_known else self.sets_of(pages)
-        self.sets[chain] = found
-        return {key: members for by_hash, _ in found.values() for key, members in by_hash.items()}, {height for _, heights in found.values() for height in heights}
-
-    def sets_of(self, files: list[pathlib.Path]) -> Sets:
-        """The validator set on the pages of a height."""
         pages: list[typing.Any] = []
-        for file in files:
-            try:
+        for file in place.glob("validators-*.json"):
+            with contextlib.suppress(self.commits.Flaw):
                 answer = self.commits.parse(file.read_bytes())
                 pages += [self.commits.read_page(answer)] if answer is not None else []
-            except self.commits.Flaw:
-                continue
         return self.commits.sets_by_hash(pages), {page.height for page in pages}
 
-    def judge(self, chain: str, file: pathlib.Path, written: dict[str, Row], sets: Sets) -> tuple[Row | None, str]:
+    def judge(self, chain: str, file: pathlib.Path, body: bytes, digest: str, sets: Sets) -> tuple[Row | None, str]:
         """The verdict on a commit, if its set is there and it is good, and why to doubt it, if there is a reason."""
         by_hash, heights = sets
-        body = file.read_bytes()
-        digest = hashlib.sha256(body).hexdigest()
-        if digest in written and written[digest]["answer"] == file.name:
-            return written[digest], ""
         try:
             answer = self.commits.parse(body)
             if answer is None or "signed_header" not in answer:

@@ -489,6 +489,7 @@ def revision_of(state):
 def script_of(setup, folder, verified=False):
     """The script of a setup's text and of the answers, as TOML's values, its times in nanoseconds."""
     script = tomllib.loads(setup) | {"version": 4}
+    script["chain"] = [{"id": chain["id"]} for chain in script["chain"]]
     records, by_chain = [], {}
     for client in script.get("client", []):
         states = answers_in(folder / client["id"])

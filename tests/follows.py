@@ -1,6 +1,7 @@
 """Turns as they come: what `ibcplan follow` answers to each, whatever pieces its input comes in."""
 import contextlib
 import dataclasses
+import itertools
 import json
 import os
 import pathlib
@@ -125,10 +126,13 @@ def run_in_pieces(words, given, size):
 class Following:
     """A process that is told turns one by one."""
 
-    def __init__(self, program, setup, words=()):
+    def __init__(self, program, setup, words=(), given=None):
         self.run = subprocess.Popen([*program, "follow", str(setup), *words], stdin=subprocess.PIPE, stdout=subprocess.PIPE,
                                     stderr=subprocess.PIPE, text=True)
-        self.head = self.run.stdout.readline() if "--json" not in words else ""
+        if given is not None:
+            self.run.stdin.write(given + MARK)
+            self.run.stdin.flush()
+        self.head = self.run.stdout.readline()
 
     def answer(self, document):
         self.run.stdin.write(document + MARK)
@@ -141,6 +145,12 @@ class Following:
     def end(self):
         output, error = self.run.communicate(timeout=PATIENCE)
         return output, error, self.run.returncode
+
+
+def greeting_of(program, version):
+    """What `follow --json` begins with for a setup of this version."""
+    name = subprocess.run([*program, "--version"], capture_output=True, text=True, timeout=PATIENCE).stdout.strip()
+    return {"ibcplan": version if version > 2 else 1, "program": name, "scripts": [1, 2, 3, 4]}
 
 
 # ---- cases
@@ -166,7 +176,7 @@ def scripts():
 def script_runs(program, folder, is_quick):
     """Each script by `follow`: what `plan` writes, in pieces of several sizes and by several numbers of workers."""
     ways = [(size, workers) for size in (1, 7, 4096) for workers in (0, 1, 2, 8)]
-    runs = wrong = 0
+    runs, wrong, greeting = 0, 0, greeting_of(program, 1)
     for number, (name, script, report) in enumerate(scripts()):
         try:
             setup, documents = parts_of(script)
@@ -182,7 +192,9 @@ def script_runs(program, folder, is_quick):
             runs += 1
         done = run_in_pieces([*program, "plan", "--json", "-"], script.encode(), 4096)
         lines = [read_json(line) for line in run_in_pieces([*program, "follow", "--json", str(path)], ended(documents), 4096).output.splitlines()]
-        wrong += check(f"{name}, followed as JSON", lines, read_json(done.output)["turns"])
+        planned = read_json(done.output)
+        greeting = {**greeting, "ibcplan": planned["ibcplan"]}
+        wrong += check(f"{name}, followed as JSON", lines, [greeting, *({"turn": number, **turn} for number, turn in enumerate(planned["turns"], 1))])
         runs += 1
     return runs, wrong
 
@@ -234,7 +246,7 @@ def fault_runs(program, folder):
     done = run_in_pieces([*program, "follow", str(path), "--workers", "2"], given, 4096)
     wrong += check("all faults in a row", (done.output, done.status), (wanted, 0))
     done = run_in_pieces([*program, "follow", "--json", str(path)], ended([document for _, document, _ in faults]), 4096)
-    got = [f'{item["fault"]} {item["name"]} at {item["path"]}' for item in map(read_json, done.output.splitlines())]
+    got = [f'{item["fault"]} {item["name"]} at {item["path"]}' for item in map(read_json, done.output.splitlines()[1:])]
     wrong += check("all faults as JSON", got, [fault for _, _, fault in faults])
     return runs + 2, wrong
 
@@ -285,8 +297,8 @@ def failure_runs(program, folder):
         bad.write_bytes(text)
         done = run_in_pieces([*program, "follow", str(bad)], b"", 4096)
         wrong += check(what, (done.output, done.error.splitlines()[:1], done.status), ("", [fault], 1))
-    done = run_in_pieces([*program, "follow", "-"], b"", 4096)
-    wrong += check("a setup from standard input", (done.output, done.status), ("", 2))
+        done = run_in_pieces([*program, "follow", "-"], text + MARK.encode(), 4096)
+        wrong += check(f"{what}, as the first document", (done.output, done.error.splitlines()[:1], done.status), ("", [fault], 1))
     run = subprocess.Popen([*program, "follow", str(path), "--workers", "2"], stdin=subprocess.PIPE, stdout=subprocess.PIPE, stderr=subprocess.PIPE)
     run.stdout.readline()
     run.stdout.close()
@@ -299,13 +311,152 @@ def failure_runs(program, folder):
         done = subprocess.run([*program, "follow", str(path)], input=ended(documents), stdout=full, stderr=subprocess.PIPE, timeout=PATIENCE)
     wrong += check("a full device", (done.stderr.splitlines()[:1], done.returncode), ([b"device"], 4))
     window = b'from = "2025-03-01T12:00:00Z"\nuntil = "2025-03-01T12:00:00Z"\n'
-    for version, most in (1, 500), (3, 10_000), (4, 10_000):
+    for version, most in (1, 500), (3, 10_000):
         bad.write_bytes(b"version = %d\n" % version)
         done = run_in_pieces([*program, "follow", str(bad)], ended([window] * (most + 1)), 4096)
         turns = "".join(f"turn {number}\n{MARK}" for number in range(1, most + 1))
         wanted = f"ibcplan {version}\n{turns}fault 1017 TooManyObjects at -\n{MARK}end\n"
         wrong += check(f"{most + 1} turns in version {version}", (done.output, done.status, "begin anew" in done.error), (wanted, 0, True))
-    return 8, wrong
+    bad.write_bytes(b"version = 4\n")
+    done = run_in_pieces([*program, "follow", str(bad)], ended([window] * 30_000), 1 << 16)
+    turns = "".join(f"turn {number}\n{MARK}" for number in range(1, 30_001))
+    wrong += check("30,000 turns in version 4", (done.output, done.error, done.status), (f"ibcplan 4\n{turns}end\n", "", 0))
+    return 9, wrong
+
+
+def quiet_runs(program, folder):
+    """Faults by the thousand, while nobody reads standard error: with --quiet all are answered, and nothing stands there but why a run fails."""
+    path, bad, count = folder / "setup.toml", folder / "bad.toml", 5_000
+    path.write_text("version = 3\n")
+    bad.write_bytes(b"")
+    text, line = f"fault 1001 NotToml at -\n{MARK}", '{"fault": 1001, "name": "NotToml", "path": "-"}\n'
+    wrong = 0
+    for words, wanted in ([], f"ibcplan 3\n{text * count}end\n"), (["--json"], line * count):
+        done = run_in_pieces([*program, "follow", "--quiet", *words, str(path)], ended([b"from =\n"] * count), 4096)
+        output = done.output.partition("\n")[2] if words else done.output
+        wrong += check(f"{count} faults {words}, quietly", (output, done.error, done.status), (wanted, "", 0))
+    done = run_in_pieces([*program, "follow", str(path)], ended([b"from =\n"]), 4096)
+    wrong += check("a fault, not quietly", (done.output, bool(done.error)), (f"ibcplan 3\n{text}end\n", True))
+    done = run_in_pieces([*program, "follow", "--quiet", str(bad)], b"", 4096)
+    wrong += check("a bad setup, quietly", (done.output, done.error.splitlines()[:1], done.status), ("", ["fault 1002 MissingKey at version"], 1))
+    return 4, wrong
+
+
+def first_document_runs(program, folder):
+    """The setup as the first document of standard input: the answers are those to the setup in a file."""
+    setup, documents = parts_of((EXAMPLES / "two_clients.toml").read_text())
+    head, answers, end = answers_of((EXAMPLES / "two_clients.report").read_text())
+    journal, whole, wrong = folder / "first.journal", head + "".join(answers) + end, 0
+    cases = (
+        ("a setup and turns", ended([setup, *documents]), whole),
+        ("a setup, turns, and lines that end by CR and LF", ended([setup, *documents]).replace(b"\n", b"\r\n"), whole),
+        ("a setup alone", ended([setup]), head + end),
+        ("a setup without a last line", setup, head + end),
+        ("a setup and a last line without an end", ended([setup])[:-1], head + end),
+    )
+    for what, given, wanted in cases:
+        for size in 1, 7, 4096:
+            done = run_in_pieces([*program, "follow", "-"], given, size)
+            wrong += check(f"{what}, in pieces of {size}", (done.output, done.error, done.status), (wanted, "", 0))
+    run = Following(program, "-", given=setup.decode())
+    wrong += check("a setup before any turn", (run.head, run.answer(documents[0].decode()) + MARK, run.end()), (head, answers[0], (end, "", 0)))
+    steps = ("begun", ["-"], [setup, *documents[:2]], 2), ("gone on with", [], documents[2:], 4), ("read again", ["-"], [setup], 4)
+    for what, words, given, count in steps:
+        done = run_in_pieces([*program, "follow", *words, "--journal", str(journal)], ended(given), 4096)
+        wrong += check(f"a journal, {what}", (done.output, done.error, done.status), (head + "".join(answers[:count]) + end, "", 0))
+    done = run_in_pieces([*program, "follow", "-", "--journal", str(journal)], ended([b"version = 1\n"]), 4096)
+    wrong += check("a journal of another setup", (done.output, "another setup" in done.error, done.status), ("", True, 2))
+    large = run_in_pieces([*program, "follow", "--json", "-"], b"#" * 20_000_000, 1 << 16)
+    wrong += check("a setup that is too long", (large.output, large.status), ('{"fault": 1030, "name": "InputTooBig", "path": "-"}\n', 1))
+    return 3 * len(cases) + 6, wrong
+
+
+def numbered(number, document, end=b"\n"):
+    return b"turn = %d%s%s" % (number, end, document)
+
+
+def number_runs(program, folder):
+    """Documents that begin with their numbers: the number is that of the next turn, goes before the turn is read, and is told again with a fault."""
+    setup, documents = parts_of((EXAMPLES / "two_clients.toml").read_text())
+    head, answers, end = answers_of((EXAMPLES / "two_clients.report").read_text())
+    path, journals, wrong = folder / "setup.toml", [folder / "numbers.journal", folder / "no_numbers.journal"], 0
+    path.write_bytes(setup)
+    whole, order = head + "".join(answers) + end, f"fault 1035 OutOfOrder at turn\n{MARK}"
+    numbers = [numbered(number, document) for number, document in enumerate(documents, 1)]
+    first, second = documents[0], numbers[1]
+    half = numbers[0].index(b"event = [")
+    runs = (
+        ("numbers from 1 on", numbers, whole),
+        ("some numbers", [numbers[0], documents[1], numbers[2], documents[3]], whole),
+        ("lines that end by CR and LF", [document.replace(b"\n", b"\r\n") for document in numbers], whole),
+        ("a comment behind a number", [numbered(1, first, b" # the first\n"), *numbers[1:]], whole),
+        ("another number first", [numbered(2, first), *numbers], head + order + "".join(answers) + end),
+        ("no turn", [numbered(0, first), *numbers], head + order + "".join(answers) + end),
+        ("a number again", [numbers[0], *numbers], head + answers[0] + order + "".join(answers[1:]) + end),
+        ("a number left out", [numbers[0], *numbers[2:], *numbers[1:]], head + answers[0] + 2 * order + "".join(answers[1:]) + end),
+        ("more digits", [numbered(10, first), numbered(11, first), numbered(1, first, b"_0\n"), numbered(1, first, b"e0\n"), b"turn = 01\n" + first, b"turn = 1\n", *numbers],
+         head + 5 * order + "fault 1002 MissingKey at from\n" + MARK + "".join(answers) + end),
+        ("a number above 2^64", [numbered(2**64 + 1, first), *numbers], head + order + "".join(answers) + end),
+        ("other forms", [b"turn=1\n" + first, b"turn = '1'\n" + first, b" turn = 1\n" + first, b"turn = +1\n" + first, b"# 1\nturn = 1\n" + first, *numbers],
+         head + 5 * ("fault 1003 UnknownKey at turn\n" + MARK) + "".join(answers) + end),
+        ("faults keep their numbers", [numbers[0], numbered(2, b"from = 3\n"), second, numbered(2, b"from = 3\n"), *numbers[2:]],
+         head + answers[0] + f"fault 1004 WrongType at from\n{MARK}" + answers[1] + order + "".join(answers[2:]) + end),
+        ("a line --- within a turn", [numbers[0][:half], numbers[0][half:], numbers[0]], None),
+    )
+    for what, given, wanted in runs:
+        for size in 7, 4096:
+            done = run_in_pieces([*program, "follow", str(path)], ended(given), size)
+            got = done.output if wanted is not None else order in done.output
+            wrong += check(f"{what}, in pieces of {size}", (got, done.status), (wanted if wanted is not None else True, 0))
+    given = [numbers[0], numbered(3, documents[2]), numbered(2, b"from = 3\n"), b"from = 3\n", documents[1]]
+    done = run_in_pieces([*program, "follow", "--json", str(path)], ended(given), 4096)
+    told = [{key: line[key] for key in ("turn", "fault", "name", "path") if key in line} for line in map(read_json, done.output.splitlines()[1:])]
+    fault = {"fault": 1004, "name": "WrongType", "path": "from"}
+    wanted = [{"turn": 1}, {"turn": 2, "fault": 1035, "name": "OutOfOrder", "path": "turn"}, {"turn": 2, **fault}, fault, {"turn": 2}]
+    wrong += check("numbers as JSON", told, wanted)
+    for journal, given in zip(journals, (numbers, documents)):
+        for some in given[:2], given[2:]:
+            done = run_in_pieces([*program, "follow", str(path), "--journal", str(journal)], ended(some), 4096)
+    wrong += check("a journal of numbers", (done.output, journals[0].read_bytes() == journals[1].read_bytes()), (whole, True))
+    return 2 * len(runs) + 2, wrong
+
+
+def unlabelled_runs(program, folder, is_quick):
+    """Answers without labels: else they are the same, and so is the journal."""
+    path, journals, runs, wrong = folder / "setup.toml", [folder / "labels.journal", folder / "no_labels.journal"], 0, 0
+    for name, script, report in itertools.islice(scripts(), 0, None, 7 if is_quick else 1):
+        try:
+            setup, documents = parts_of(script)
+        except (tomllib.TOMLDecodeError, ValueError):
+            continue
+        path.write_bytes(setup)
+        wanted = "".join(line for line in followed(report).splitlines(keepends=True) if not line.startswith("label "))
+        done = run_in_pieces([*program, "follow", "--no-labels", str(path)], ended(documents), 4096)
+        wrong += check(f"{name}, without labels", (done.output, done.status), (wanted, 0))
+        turns = read_json(run_in_pieces([*program, "plan", "--json", "-"], script.encode(), 4096).output)["turns"]
+        for client in (client for turn in turns for client in turn["clients"] if "labels" in client):
+            client["labels"] = []
+        done = run_in_pieces([*program, "follow", "--json", "--no-labels", str(path)], ended(documents), 4096)
+        wrong += check(f"{name}, as JSON without labels", [*map(read_json, done.output.splitlines()[1:])], [{"turn": number, **turn} for number, turn in enumerate(turns, 1)])
+        for journal, words in zip(journals, ([], ["--no-labels"])):
+            journal.unlink(missing_ok=True)
+            run_in_pieces([*program, "follow", *words, "--journal", str(journal), str(path)], ended(documents), 4096)
+        wrong += check(f"{name}, its journals", journals[0].read_bytes() == journals[1].read_bytes(), True)
+        runs += 3
+    return runs, wrong
+
+
+def greeting_runs(program, folder):
+    """The first line with --json: it is there before the first document, and `--version --json` says the same of the newest version."""
+    path, wrong = folder / "setup.toml", 0
+    for version in 1, 2, 3, 4:
+        path.write_text(f"version = {version}\n")
+        run = Following(program, path, ["--json"])
+        wrong += check(f"the greeting of version {version}", (read_json(run.head), run.end()), (greeting_of(program, version), ("", "", 0)))
+    for words in ["--version", "--json"], ["--json", "--version"]:
+        done = run_in_pieces([*program, *words], b"", 4096)
+        wrong += check(f"{words}", (done.output, done.error, done.status), (run.head, "", 0))
+    return 6, wrong
 
 
 def live_runs(program, folder):
@@ -344,11 +495,13 @@ def follow_runs(program, folder, is_quick=False):
     """All runs of `follow`: how many there were, and how many weren't as they have to be."""
     signal.signal(signal.SIGPIPE, signal.SIG_IGN)
     runs = wrong = 0
-    for case in (live_runs, client_runs, end_runs, fault_runs, failure_runs):
+    for case in (live_runs, first_document_runs, number_runs, greeting_runs, quiet_runs, client_runs, end_runs, fault_runs, failure_runs):
         more, bad = case(program, folder)
         runs, wrong = runs + more, wrong + bad
-    more, bad = script_runs(program, folder, is_quick)
-    return runs + more, wrong + bad
+    for case in (script_runs, unlabelled_runs):
+        more, bad = case(program, folder, is_quick)
+        runs, wrong = runs + more, wrong + bad
+    return runs, wrong
 
 
 if __name__ == "__main__":

@@ -521,11 +521,27 @@ def journal_runs(program, folder):
     return 8, wrong
 
 
+# ---- more entries than a script may have
+
+def entry_runs(program, folder):
+    """Turns with 400 headers each, 204,000 in all, of which a client trusts a hundred: in version 3 there is no room from the 499th turn on, in version 4 all are
+    answered."""
+    path, wrong, count = folder / "setup.toml", 0, 510
+    documents = [turn_at(top, [*([a_set("zone", "only")] if top == 400 else []), *(header("zone", height) for height in range(top - 399, top + 1)), stored("living", top)])
+                 for top in range(400, 400 * count + 1, 400)]
+    for version, most in (3, 498), (4, count):
+        done = told(program, path, expiring_setup(version, False), documents, ["--no-labels"])
+        answers = done.output.split(MARK)
+        full = sum(answer == "fault 1018 TooManyEvents at -\n" for answer in answers)
+        wrong += check(f"{count} turns of 401 entries in version {version}", (full, "refused" in done.output, done.output.count("\nturn "), done.status), (count - most, False, most, 0))
+    return 2, wrong
+
+
 def forget_runs(program, folder):
     """All runs of what is forgotten: how many there were, and how many weren't as they have to be."""
     signal.signal(signal.SIGPIPE, signal.SIG_IGN)
     runs = wrong = 0
-    for case in (height_runs, needed_runs, window_runs, store_runs, packet_runs, front_runs, journal_runs):
+    for case in (height_runs, needed_runs, window_runs, store_runs, packet_runs, front_runs, entry_runs, journal_runs):
         more, bad = case(program, folder)
         runs, wrong = runs + more, wrong + bad
     return runs, wrong

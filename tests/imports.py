@@ -162,7 +162,7 @@ def busy_cases(top):
 
 BIG, LONG = "9223372036854775808", "9223372037s"
 # fields of a header that only its hash needs
-HASHES = ["last_commit_hash", "data_hash", "consensus_hash", "app_hash", "last_results_hash", "evidence_hash", "proposer_address"]
+HASHES = ["last_commit_hash", "data_hash", "consensus_hash", "app_hash", "last_results_hash", "evidence_hash"]
 # by file the fields that are needed: where they stand, how a flaw names them (None: as they stand), and what is out of their range
 FIELDS = {
     "hub-4/commit-80.json": [
@@ -170,10 +170,13 @@ FIELDS = {
         (f"{HEADER}.chain_id", None, "hub 4", "BadIdentifier"), (f"{HEADER}.height", None, BIG, "BadNumber"),
         (f"{HEADER}.time", None, "1969-12-31T23:59:59Z", "BadTime"),
         (f"{HEADER}.version", None, None, None), (f"{HEADER}.last_block_id", None, None, None), (f"{HEADER}.last_block_id.parts", None, None, None),
+        (f"{HEADER}.proposer_address", None, "00" * 32, "BadHex"),
         (f"{COMMIT}.block_id", None, None, None), (f"{COMMIT}.block_id.hash", None, "00" * 33, "BadHex"),
+        (f"{COMMIT}.block_id.parts.hash", f"{COMMIT}.block_id.hash", "00" * 31, "BadHex"),
         (f"{HEADER}.validators_hash", None, "00" * 31, "BadHex"), (f"{HEADER}.next_validators_hash", None, "0x" + "00" * 31, "BadHex"),
         (f"{COMMIT}.height", None, "0", "BadNumber"), (f"{SIGNATURE}.block_id_flag", None, 4, "BadFlag"),
-        (f"{SIGNATURE}.validator_address", None, "00" * 32, "BadHex")],
+        (f"{SIGNATURE}.validator_address", None, "00" * 32, "BadHex"), (f"{SIGNATURE}.timestamp", None, "1969-12-31T23:59:59Z", "BadTime"),
+        (f"{SIGNATURE}.signature", None, "AAAA", "BadBase64")],
     "hub-4/validators-80-1.json": [
         ("result.block_height", None, "0", "BadNumber"), ("result.total", None, "18446744073709551616", "BadNumber"),
         (f"{FIRST}.pub_key.type", f"{FIRST}.type", "cometbft/PubKeyBls12_381", "ForeignKey"),
@@ -200,6 +203,7 @@ LEFT_OUT = {
         (f"{HEADER}.version.block", None, "-1", "BadNumber"), (f"{HEADER}.version.app", None, "18446744073709551616", "BadNumber"),
         (f"{HEADER}.last_block_id.hash", None, "0", "BadHex"), (f"{HEADER}.last_block_id.parts.hash", None, "00" * 65, "BadHex"),
         (f"{HEADER}.last_block_id.parts.total", None, "1", "WrongType"),
+        (f"{COMMIT}.round", None, 2**31, "WrongType"), (f"{COMMIT}.block_id.parts.total", f"{COMMIT}.block_id.total", "1", "WrongType"),
         *((f"{HEADER}.{name}", None, "0x", "BadHex") for name in HASHES)],
     "hub-on-zone/client_state.json": [
         (f"{STATE}.frozen_height", None, None, None), (f"{STATE}.latest_height.revision_number", None, "four", "BadNumber"),
@@ -215,6 +219,9 @@ DAMAGES = [
     (COMMIT_FILE, put(SIGNED, True), f"WrongType at {SIGNED}"),
     (COMMIT_FILE, put(f"{COMMIT}.signatures[0]", True), f"MissingField at {SIGNATURE}.block_id_flag"),
     (COMMIT_FILE, put(f"{SIGNATURE}.block_id_flag", -1), f"WrongType at {SIGNATURE}.block_id_flag"),
+    (COMMIT_FILE, put(f"{SIGNATURE}.signature", None), f"WrongType at {SIGNATURE}.signature"),
+    (COMMIT_FILE, gone(f"{COMMIT}.block_id.parts"), f"MissingField at {COMMIT}.block_id.parts"),
+    (COMMIT_FILE, put(f"{COMMIT}.block_id.parts", True), f"MissingField at {COMMIT}.block_id.hash"),
     (PAGE_FILE, gone("result.validators"), "UnknownShape at -"),
     (PAGE_FILE, put("result.validators", True), "WrongType at result.validators"),
     (PAGE_FILE, gone(f"{FIRST}.pub_key"), f"MissingField at {FIRST}.pub_key"),
@@ -266,7 +273,7 @@ DAMAGES = [
         put(f"{HEADER}.version.block", "10"), put(f"{HEADER}.version.app", "1"), gone(f"{HEADER}.version.block"), put(f"{HEADER}.time", "2026-11-01T12:08:32Z"),
         put(f"{HEADER}.last_block_id.hash", ""), put(f"{HEADER}.last_block_id.parts.total", 2), put(f"{HEADER}.last_block_id.parts.hash", "00" * 32),
         put(f"{HEADER}.validators_hash", "00" * 32), put(f"{HEADER}.next_validators_hash", "00" * 32), put(f"{COMMIT}.block_id.hash", "00" * 32),
-        *(put(f"{HEADER}.{name}", "00" * 20) for name in HASHES), *(gone(f"{HEADER}.{name}") for name in HASHES))),
+        put(f"{HEADER}.proposer_address", "00" * 20), *(put(f"{HEADER}.{name}", "00" * 20) for name in HASHES), *(gone(f"{HEADER}.{name}") for name in HASHES))),
     ("hub-4/commit-80.json", put(f"{SIGNATURE}.validator_address", "00" * 20), "OtherSigner at hub-4 80"),
     ("hub-4/commit-80.json", gone(f"{COMMIT}.signatures[5]"), "SignatureCount at hub-4 80"),
     ("hub-4/validators-80-1.json", put("result.total", "5"), "OtherTotal at hub-4 80"),
@@ -663,6 +670,28 @@ def changes():
     yield from CHANGES
 
 
+SENDER = 'signer = "cosmos1qy352euf", fee_denom = "ibc/27394FB0", gas_price = [25, 1000]'
+
+# the fault of a setup whose second chain has these keys, too
+SENDER_FAULTS = [
+    ("1002 MissingKey at chain[1].signer", 'gas_factor = [6, 5]'), ("1002 MissingKey at chain[1].signer", 'client_message = "header"'),
+    ("1002 MissingKey at chain[1].fee_denom", 'signer = "a"'), ("1002 MissingKey at chain[1].gas_price", 'signer = "a", fee_denom = "u"'),
+    ("1004 WrongType at chain[1].signer", SENDER.replace('"cosmos1qy352euf"', "1")), ("1007 BadIdentifier at chain[1].signer", SENDER.replace("cosmos1", "cosmos/")),
+    ("1007 BadIdentifier at chain[1].signer", SENDER.replace("cosmos1qy352euf", "")), ("1007 BadIdentifier at chain[1].signer", SENDER.replace("cosmos1", "c" * 128)),
+    ("1007 BadIdentifier at chain[1].signer", SENDER.replace("cosmos1", "cosm\\\"s")), ("1007 BadIdentifier at chain[1].fee_denom", SENDER.replace("ibc/", "ibc'")),
+    ("1004 WrongType at chain[1].gas_price", SENDER.replace("[25, 1000]", "0.025")), ("1004 WrongType at chain[1].gas_price", SENDER.replace("[25, 1000]", "[25]")),
+    ("1004 WrongType at chain[1].gas_price[1]", SENDER.replace("1000]", '"u"]')), ("1006 OutOfRange at chain[1].gas_price[0]", SENDER.replace("[25,", "[-1,")),
+    ("1006 OutOfRange at chain[1].gas_price[1]", SENDER.replace("1000]", "0]")), ("1006 OutOfRange at chain[1].gas_factor[1]", SENDER + ", gas_factor = [1, -5]"),
+    ("1004 WrongType at chain[1].client_message", SENDER + ", client_message = 6"), ("1013 BadKind at chain[1].client_message", SENDER + ', client_message = "Header"'),
+    ("1003 UnknownKey at chain[1].gas", SENDER + ", gas = 1"),
+]
+
+
+def with_sender(text, keys):
+    """A setup whose second chain says who sends transactions to it."""
+    return swapped('{ id = "zone-1" }', f'{{ id = "zone-1", {keys} }}')(text)
+
+
 def spoiled_cases(top):
     """Answers that are spoiled in one place, and such as look it; setups with a fault."""
     whole, setup, text = top / "whole", top / "setup.toml", setups(2)[1]
@@ -678,6 +707,12 @@ def spoiled_cases(top):
         if line is None:
             edited(file, edit)(whole)
     yield import_case("fields that aren't needed", [str(setup), str(whole)], text, whole)
+    for fault, keys in SENDER_FAULTS:
+        yield Case(fault, ["import", "-", str(whole)], with_sender(text, keys).encode(), b"", f"fault {fault}\n".encode(), 1)
+    for number, keys in enumerate((SENDER, f'{SENDER}, gas_factor = [13, 10], client_message = "header"')):
+        sender = top / f"sender-{number}.toml"
+        sender.write_text(with_sender(text, keys))
+        yield import_case("a sender", [str(sender), str(whole)], sender.read_text(), whole)
     for fault, script in ((b"fault 1002 MissingKey at turn\n", HEAD + ONE), (b"fault 1003 UnknownKey at client[0].colour\n", HEAD + ONE + "colour = 1\n" + TURN % 20),
                           (b"fault 1003 UnknownKey at turn[0].event\n", HEAD + ONE + TURN % 20 + "event = []\n"),
                           (b"fault 1002 MissingKey at path[0].channel\n", swapped(PATH_GAS, PATH_GAS + 'port = "transfer"\n')(text)),
@@ -726,6 +761,7 @@ TAKEN = [
     paged([0], [1]), paged([0, 1], [1]), paged([0], [0, 1]), paged([0, 1], [1], []), paged([0, 1], [1, 0], [0, 0, 1]),
     edited(STORED_FILE, put("pagination.next_key", "")), edited(STORED_FILE, put("pagination", {})), edited(STORED_FILE, gone("pagination")),
     edited(STATE_FILE, put(f"{STATE}.frozen_height", {})), edited(STATE_FILE, gone(f"{STATE}.frozen_height")),
+    edited(COMMIT_FILE, gone(f"{COMMIT}.round")), edited(COMMIT_FILE, gone(f"{COMMIT}.block_id.parts.total")),
     edited(COMMIT_FILE, hashed(put(f"{HEADER}.version.app", "7"))), edited(COMMIT_FILE, hashed(gone(f"{HEADER}.version.block"))),
     edited(COMMIT_FILE, hashed(put(f"{HEADER}.last_block_id", {"hash": "", "parts": {"total": 0, "hash": ""}}))),
     *(edited(COMMIT_FILE, hashed(edit)) for name in HASHES if name != "app_hash" for edit in (put(f"{HEADER}.{name}", ""), put(f"{HEADER}.{name}", "0b" * 64), gone(f"{HEADER}.{name}"))),

@@ -309,8 +309,8 @@ def refusal_cases(top, script, folder):
 
     for name, change, error in (
         ("no-header", without("commit-80.json"), b"refused MissingHeader at hub-4 80\n"),
-        ("cut-signature", edited(cut), b"refused BadBase64 at result.signed_header.commit.signatures[0].-\n"),
-        ("round", edited(turned), b"refused WrongType at result.signed_header.commit.-\n"),
+        ("cut-signature", edited(cut), b"refused BadBase64 at result.signed_header.commit.signatures[0].signature\n"),
+        ("round", edited(turned), b"refused WrongType at result.signed_header.commit.round\n"),
         ("no-parts", edited(bare), b"refused MissingField at result.signed_header.commit.block_id.parts\n"),
         ("other-header", edited(other), b"refused OtherHeader at hub-4 80\n"),
         ("misfit", edited(misfit), b"refused OtherHeader at hub-4 80\n"),

@@ -11,7 +11,7 @@ import urllib.parse
 from datetime import timedelta
 
 import answers
-from program import STEERING
+from program import STEERING, TOP
 
 BLOCK = timedelta(seconds=6)
 
@@ -214,6 +214,16 @@ def serve(answer, asked):
         yield f"http://127.0.0.1:{server.server_port}"
     finally:
         server.shutdown()
+
+
+def fetching(file, program, addresses):
+    """The words that have the relayer save the answers for a setup, by a configuration that is written: of chains the addresses of a node and of a gateway,
+    or None."""
+    text = f"version = 1\nprogram = {json.dumps([str(program)])}\nverify = false\n"
+    for chain, (rpc, rest) in addresses.items():
+        text += f'[[chain]]\nid = "{chain}"\nnodes = {json.dumps([rpc or "http://127.0.0.1:1"])}\ngateways = {json.dumps([rest] if rest else [])}\n'
+    file.write_text(text)
+    return [TOP / "relayer" / "ibcplan-relayer", "--config", file, "fetch"]
 
 
 # ---- the least plan

@@ -2,6 +2,7 @@
 import functools
 import itertools
 import json
+import pathlib
 import shlex
 import sys
 import tomllib
@@ -232,8 +233,36 @@ def output_cases():
         value = value_of(table, report)
         yield Case(f"JSON of {what}", ["plan", "--json", "-"], given, json_of(script, report), b"", 0, reader=read_json)
         yield Case(f"commands of {what}", ["commands", "-"], given, commands_of(table, value).encode(), b"", 0)
-    for words in ["plan", "--json", "-"], ["commands", "-"]:
-        yield Case(f"a fault of {words[0]}", words, b"version =", b"", b"fault 1001 NotToml at -\n", 1)
+    yield Case("a fault of commands", ["commands", "-"], b"version =", b"", b"fault 1001 NotToml at -\n", 1)
+    yield from fault_cases()
+
+
+def fault_of(line):
+    """The value that is written with --json for the line of a fault."""
+    _, number, name, _, path = line.rstrip("\n").split(" ", 4)
+    return {"fault": int(number), "name": name, "path": path}
+
+
+def fault_cases():
+    """With --json a fault of a text stands on standard output, too, and nothing else; its words stay on standard error. Other failures are told there alone."""
+    smallest, certificate = str(TOP / "examples" / "smallest.toml"), str(TOP / "examples" / "smallest.certificate")
+    commands = ["plan", "-"], ["plan", "--strict", "-"], ["run", "--workers", "2", "-"], ["explain", "-"], ["explain", "--last", "-"], ["certify", "-", certificate], ["certify", smallest, "-"]
+    for words in commands:
+        for given, fault in (b"version =", "1001 NotToml at -"), (b"", "1002 MissingKey at version"), (b"# \xff", "1001 NotToml at -"), (b'"a\\"\\\\b" = 1', '1003 UnknownKey at a"\\b'):
+            error = f"fault {fault}\n"
+            yield Case(f"{words}, {fault} as JSON", [words[0], "--json", *words[1:]], given, f"{json.dumps(fault_of(error))}\n".encode(), error.encode(), 1)
+            yield Case(f"{words}, {fault}", words, given, b"", error.encode(), 1)
+    for words in ["plan", "--json", "no/such/file"], ["certify", "--json", smallest, "no/such/file"], ["follow", "--json", "no/such/file"]:
+        yield Case(f"{words}", words, b"", b"", b"device\n", 4)
+    for words in ["plan", "--json", "-"], ["certify", "--json", "-", certificate]:
+        yield Case(f"{words} on a full device", words, b"version =", b"", b"device\n", 4, pathlib.Path("/dev/full"), named=(b"\nstandard output: No space left on device ",))
+    yield Case("a turn of explain that isn't there", ["explain", "--json", "--turn", "9", smallest], b"", b"", b"error: invalid value '9' for '--turn <N>': the last turn of " + smallest.encode() + b" is 1\n", 2)
+
+
+def verdict_of(line):
+    """The value that `certify --json` writes for the line of a verdict."""
+    verdict, *reason = line.split()
+    return {"verdict": verdict} | ({"number": int(reason[0]), "name": reason[1], "at": [*map(int, reason[2:])]} if reason else {})
 
 
 def jq_cases(program):

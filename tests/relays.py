@@ -1,4 +1,5 @@
 """Runs of the relayer over simulated chains, for tests/run."""
+import dataclasses
 import json
 import pathlib
 import resource
@@ -9,14 +10,19 @@ import sys
 import tempfile
 import time
 import urllib.request
+from unittest import mock
 
+from packet_relays import PACKET_KINDS, pending, told_of
 from program import CONTROL, STEERING
 from relaying.chains import BEGIN, SIGNED, Refusal, past_update
-from relaying.days import Days
+from relaying.channels import PacketChain
+from relaying.days import MOMENTS, Days
 from relaying.serving import GATEWAY_FAULTS, NODE_FAULTS
 from relaying.world import PROGRAM, RELAYER, World
 
 from relayer.config import read_config
+from relayer.planner import Packet
+from relayer.state import Failure, State, Transaction, read_state
 from relayer.words import Fault
 
 
@@ -55,22 +61,24 @@ def dry_round(program, folder):
 
 
 def plain_rounds(program, folder):
-    """Five clients are updated; then nothing is due, and little is asked for all of them, and for those on one host."""
-    with World(folder, program, names=("hub-4", "zone-1", "osmo-7"), refresh=600, blocks=200) as world:
+    """Five clients are updated; then nothing is due, and little is asked for all of them and for a channel, and for those on one host."""
+    with World(folder, program, names=("hub-4", "zone-1", "osmo-7"), refresh=600, blocks=200, kind=PacketChain) as world:
         world.between(("hub-4", "zone-1"), ("zone-1", "osmo-7"))
         world.client("hub-4", "osmo-7")
-        world.write()
+        world.open("hub-4", "zone-1")
         with world.relaying() as relayer:
             busy = whole_round(relayer)
             flaws = expected(busy, "updated", "first")
             flaws += [f"{name}: {client.latest()}" for name, client in world.light_clients().items() if client.latest() < 199 or client.updates != 1]
             whole_round(relayer)
             world.forward(3)
-            quiet, of_hosts = whole_round(relayer), [whole_round(relayer, [host]) for host in world.chains]
-        flaws += expected(quiet, "idle", "third") + [f"{quiet.requests} requests" for _ in "1" if quiet.requests > 9]
+            begin = time.monotonic()
+            quiet, seconds = whole_round(relayer), time.monotonic() - begin
+            of_hosts = [whole_round(relayer, [host]) for host in world.chains]
+        flaws += expected(quiet, "idle", "third") + [f"{quiet.requests} requests" for _ in "1" if quiet.requests > 10]
         flaws += [f"{quiet.calls} calls" for _ in "1" if quiet.calls > 4]
         flaws += [f"{report.requests} requests for a host" for report in of_hosts if report.requests > 8]
-        print(f"relayer: five clients, a busy round {busy.requests} requests, {busy.calls} calls; a quiet one {quiet.requests}, {quiet.calls}; of each host {[report.requests for report in of_hosts]}")
+        print(f"relayer: five clients, a busy round {busy.requests} requests, {busy.calls} calls; a quiet one {quiet.requests}, {quiet.calls}, {seconds:.2f} s; of each host {[report.requests for report in of_hosts]}")
         return flaws + world.flaws()
 
 
@@ -223,7 +231,7 @@ def behind(program, folder):
 def killed(program, folder):
     """Kills of the relayer at each call of the chain's program: in the end each client is updated, and nothing is sent twice."""
     flaws = []
-    for moment in "make", "sign", "broadcast before", "broadcast after":
+    for moment in MOMENTS:
         with two_chains(folder / moment, program, refresh=1_200) as world:
             (world.folder / "die").write_text(moment)
             status, _, _ = world.run("once")
@@ -242,15 +250,15 @@ def transactions_fail(program, folder):
     flaws, hurt, other = [], "hub-4.07-tendermint-0", "zone-1.07-tendermint-0"
     with two_chains(folder / "frozen", program) as world, world.relaying() as relayer:
         client = world.light_clients()[hurt]
-        check, begin = client.check_head, world.clock.seconds()
+        check = client.check_head
         client.check_head = lambda *_: (_ for _ in ()).throw(Refusal("made up"))
         flaws += expected(whole_round(relayer), {hurt: "failed", other: "updated"}, "fails in its block")
-        flaws += [] if relayer.paused_until(hurt) > begin + 5 else ["it doesn't wait"]
+        flaws += [] if relayer.seconds_left(hurt) > 5 else ["it doesn't wait"]
         flaws += expected(whole_round(relayer), {hurt: "unknown", other: "idle"}, "waits")
         client.check_head = check
         world.forward(10)
         flaws += expected(whole_round(relayer), {hurt: "updated", other: "idle"}, "again")
-        flaws += [] if client.updates == 1 and not relayer.pauses else ["not updated"]
+        flaws += [] if client.updates == 1 and not relayer.state.failures else ["not updated"]
     with two_chains(folder / "sequence", program) as world, world.relaying() as relayer:
         hub = world.chains["hub-4"]
         broadcast, hub.broadcast = hub.broadcast, lambda data: ("00", 32, STEERING)
@@ -281,19 +289,21 @@ def plan_fails(program, folder):
 
 
 def hundred_rounds(program, folder, rounds=100, blocks=60):
-    """Rounds over chains whose validators change one by one, or all at once, with faults of sources that come and go, halts, and kills: each client lives, and
-    no update is refused or sent twice."""
-    with World(folder, program, period=14_400, refresh=4_000, blocks=60, nodes=2, gateways=2) as world:
+    """Rounds over chains whose validators change one by one, or all at once, with packets both ways, faults of sources that come and go, halts, and kills: each
+    client lives, no update is refused, nothing is sent twice, and no packet is lost."""
+    with World(folder, program, period=14_400, refresh=4_000, blocks=60, nodes=2, gateways=2, kind=PacketChain) as world:
         world.chains["hub-4"].change, world.chains["zone-1"].switch = 150, (1_000, 1_700, 4_000)
         world.between(("hub-4", "zone-1"), first=50)
-        world.write()
+        world.open("hub-4", "zone-1")
         days = Days(world)
         while len(days.rounds) < rounds:
             days.kill()
             days.pass_by(10, blocks)
         updates = [client.updates for client in world.light_clients().values()]
         flaws = [f"{updates} updates: {days.words}"] if min(updates) < rounds * blocks * 6 // 6_000 else []
-        print(f"relayer: {rounds} rounds with faults, halts and kills, {updates} updates, {days.words}", *days.lines(), sep="\n")
+        calm, packets = days.calm(10), sum(len(told_of(world, kind)) for kind in ("recv_packet", "timeout_packet"))
+        flaws += [f"pending {pending(world)}"] if pending(world) else []
+        print(f"relayer: {rounds} rounds with faults, halts and kills, {updates} updates, {packets} packets, {days.words}, {calm} calm rounds", *days.lines(), sep="\n")
         return flaws + world.flaws()
 
 
@@ -337,7 +347,8 @@ def begun(program, folder):
         wanted = ["hub-4.channel-0: 4 packets wait, 3 of them with a message that is due", "  8: sent at 61, 140 blocks ago, waits for receive, due", "  6: sent at 63, 138 blocks ago, waits for its acknowledgement's writing"]
         flaws += [f"pending: {status}: {told}{error}" for _ in "1" if status or not all(line in told.splitlines() for line in wanted)]
         status, told, error = world.run("once", "--dry-run")
-        return flaws + ([] if status == 0 and told.count(": idle") == 2 else [f"once: {status}: {told}{error}"]) + world.flaws()
+        flaws += [] if status == 0 and told.count(": due, ") == 2 and "acknowledgements 2," in told and "receives 1," in told else [f"once: {status}: {told}{error}"]
+        return flaws + world.flaws()
 
 
 SOUND = """version = 1
@@ -347,6 +358,7 @@ nodes = ["http://a.example:26657"]
 gateways = ["https://b.example/rest"]
 program = ["simd"]
 signer = "relayer"
+gas_price = "0.025uatom"
 [[chain]]
 id = "zone-1"
 nodes = ["http://c.example"]
@@ -361,27 +373,73 @@ WRONG = [("version = 1", "version = 2", "version"), ("version = 1", "version = 1
          ('id = "hub-4"', 'id = "a/b"', "chain[0].id"), ('id = "zone-1"', 'id = "hub-4"', "hub-4 is there twice"), ('["http://c.example"]', "[]", "chain[1].nodes"),
          ("http://c.example", "ftp://c.example", "chain[1].nodes"), ("http://c.example", "http://c.example/?a", "chain[1].nodes"), ("http://c.example", "http://", "chain[1].nodes"),
          ('signer = "relayer"', 'signer = "--from"', "chain[0].signer"), ('signer = "relayer"\n', "", "chain[0].signer"), ('["simd"]', '["simd\\u0000"]', "chain[0].program"),
-         ('signer = "relayer"', 'signer = "relayer"\ngas_price = "1 u"', "chain[0].gas_price"), ('signer = "relayer"', 'signer = "relayer"\nfee = [1, 2]', "chain[0].fee"),
+         ("0.025uatom", "1 u", "chain[0].gas_price"), ('gas_price = "0.025uatom"\n', "", "chain[0].gas_price"), ("0.025uatom", "0.0250000000uatom", "chain[0].gas_price"), ('signer = "relayer"', 'signer = "relayer"\nfee = [1, 2]', "chain[0].fee"),
          ('of = "zone-1"', 'of = "hub-4"', "client[0].of"), ('of = "zone-1"', 'of = "other"', "client[0].of"), ('host = "hub-4"', 'host = "zone-1"', "client[0]"),
          ('id = "07-tendermint-0"', 'id = "../x"', "client[0].id"), ("= 1000", "= -1", "client[0].refresh_seconds"), ("= 1000", "= 0", "client[0].refresh_seconds"),
          ("= 1000", "= 1.5", "client[0].refresh_seconds"), ("version = 1", "version = true", "version"), ("version = 1", "version = 1\nverify = 1", "verify"),
          ("version = 1", "version = 1\n\\u001b = 1", "relayer.toml")]
 
 
+WITH_PATH = SOUND.replace('["http://c.example"]', '["http://c.example"]\ngateways = ["http://d.example"]') + """[[client]]
+host = "zone-1"
+id = "07-tendermint-9"
+of = "hub-4"
+[[path]]
+source = "hub-4"
+port = "transfer"
+channel = "channel-0"
+dest = "zone-1"
+counterparty_port = "transfer"
+counterparty_channel = "channel-7"
+order = "unordered"
+forward = "zone-1.07-tendermint-9"
+back = "hub-4.07-tendermint-0"
+gas = [3, 2, 1]
+wait_seconds = [60, 0, 0]
+"""
+WRONG_PATHS = [("[60, 0, 0]", "[60, 0]", "path[0].wait_seconds"), ("[60, 0, 0]", "[-1, 0, 0]", "path[0].wait_seconds"), ("[3, 2, 1]", "[3, 2, 1.5]", "path[0].gas"),
+               ('"unordered"', '"none"', "path[0].order"), ('forward = "zone-1.07-tendermint-9"', 'forward = "hub-4.07-tendermint-0"', "path[0].forward"),
+               ('back = "hub-4.07-tendermint-0"', 'back = "hub-4.07-tendermint-1"', "path[0].back"), ('channel = "channel-0"', 'channel = "../channel-0"', "path[0].channel"),
+               ('dest = "zone-1"', 'dest = "osmo-1"', "path[0].dest"), ("gas = [3, 2, 1]", "waits = 1", "path[0].waits")]
+
+
 def configurations(program, folder):
     """Configurations with a fault, which names the key; no word of theirs is a path out of the folder or an option."""
     folder.mkdir(parents=True)
     file, flaws = folder / "relayer.toml", []
-    file.write_text(SOUND)
-    flaws += [] if len(read_config(file).clients) == 1 else ["the sound one is refused"]
-    for old, new, key in WRONG:
-        assert SOUND.count(old) >= 1, old
-        file.write_text(SOUND.replace(old, new, 1))
+    for sound, wrong, clients in (SOUND, WRONG, 1), (WITH_PATH, WRONG_PATHS, 2):
+        file.write_text(sound)
+        flaws += [] if len(read_config(file).clients) == clients else ["the sound one is refused"]
+        for old, new, key in wrong:
+            assert sound.count(old) >= 1, old
+            file.write_text(sound.replace(old, new, 1))
+            try:
+                read_config(file)
+                flaws.append(f"{new!r} is taken")
+            except Fault as fault:
+                flaws += [] if key in str(fault) and not CONTROL.search(str(fault)) else [f"{new!r}: {fault}"]
+    return flaws
+
+
+def states(program, folder):
+    """A state file is read as it was written; one that is damaged anywhere is refused, since it may tell of open transactions."""
+    folder.mkdir(parents=True)
+    file = folder / "state.json"
+    before = State(file)
+    transaction = Transaction("hub-4", "hub-4.07-tendermint-0", (5, 9), (Packet("recv", "zone-1.channel-7", 3),), 1, "AB", 70)
+    before.add(transaction)
+    before.add(dataclasses.replace(transaction, hash="CD"))
+    before.close(transaction, 60)
+    before.fail("zone-1.channel-7 3", Failure(2, 10**18, "made up"))
+    flaws = [] if read_state(file) == dataclasses.replace(before, lock=mock.ANY) else [f"{read_state(file)}"]
+    text = file.read_text()
+    for old, new in ('"version": 1', '"version": 2'), ('"CD"', "5"), ("70", '"x"'), ("9", "null"), ("60", "-1"), ('"made up"', "[]"), ('"recv"', '""'), ("}", ""):
+        assert old in text, old
+        file.write_text(text.replace(old, new, 1))
         try:
-            read_config(file)
-            flaws.append(f"{new!r} is taken")
+            flaws.append(f"{old} as {new}: {read_state(file)}")
         except Fault as fault:
-            flaws += [] if key in str(fault) and not CONTROL.search(str(fault)) else [f"{new!r}: {fault}"]
+            flaws += [] if "no state file" in str(fault) else [str(fault)]
     return flaws
 
 
@@ -435,7 +493,7 @@ def processes(program, folder):
         return flaws + world.flaws()
 
 
-KINDS = [configurations, dry_round, plain_rounds, bad_nodes, bad_gateways, one_chain_down, halted_chain, lagging_host, halts_behind_a_broadcast, behind, killed, transactions_fail, plan_fails, hundred_rounds, begun, watching, processes]
+KINDS = [configurations, states, dry_round, plain_rounds, bad_nodes, bad_gateways, one_chain_down, halted_chain, lagging_host, halts_behind_a_broadcast, behind, killed, transactions_fail, plan_fails, hundred_rounds, begun, watching, processes, *PACKET_KINDS]
 
 
 def relay_runs(program, top, is_told=False, kinds=KINDS):

@@ -86,8 +86,8 @@ def validator_runs() -> tuple[int, int]:
 # ---- values with a flaw
 
 OUTCOMES = ["held", "idle", "unreachable", "plan"]
-ALONE = {"next", "too_big", "vote", "with_height", "windows_back", "left_out", "beyond", "refresh", "stays"}  # an object that lacks one of these may be another good one
-FROM_ONE = {"height", "trusted", "at_least", "exactly", "sequence", "proof", "batch", "proved_from"}
+ALONE = {"next", "turn", "too_big", "vote", "with_height", "windows_back", "left_out", "beyond", "refresh", "stays"}  # an object that lacks one of these may be another good one
+FROM_ONE = {"turn", "height", "trusted", "at_least", "exactly", "sequence", "proof", "batch", "proved_from"}
 NAMES = {"id", "client", "chain"}
 WORDS = {"kind", "name", "answer", "reason", "stays"}
 TIMES = {"expires", "next"}
@@ -203,23 +203,28 @@ def answers_to(program: Words, script: bytes, setup: pathlib.Path) -> list[bytes
     except (ValueError, tomllib.TOMLDecodeError):
         return []
     setup.write_bytes(first)
-    return written(program, ["follow", "--json", str(setup)], ended([*documents, b"", b"x ="])).splitlines()
+    return written(program, ["follow", "--json", str(setup)], ended([*documents, b"", b"x =", b"turn = %d\n" % (len(documents) + 1), b"turn = 0\n"])).splitlines()
 
 
 def values_of(program: Words, setup: pathlib.Path) -> Iterator[tuple[str, str, bytes]]:
     """What the program writes as JSON of the rows and the examples: a name, the kind, and the text."""
     for name, script in scripts():
         for kind, command in ("report", "plan"), ("explanation", "explain"):
-            if text := written(program, [command, "--json", "-"], script):
-                yield name, kind, text
+            text = written(program, [command, "--json", "-"], script)
+            yield name, "fault" if text.startswith(b'{"fault"') else kind, text
         for number, line in enumerate(answers_to(program, script, setup)):
-            yield f"{name} {number}", "answer", line
+            first = "fault" if line.startswith(b'{"fault"') else "greeting"
+            yield f"{name} {number}", "answer" if number else first, line
+    for row in sorted((TOP / "tests" / "certificates").glob("*.args")):
+        words = ["certify", "--json", str(TOP / "tests" / "rows" / row.read_text().split()[1]), "-"]
+        text = written(program, words, row.with_suffix("").read_bytes())
+        yield row.stem, "fault" if text.startswith(b'{"fault"') else "verdict", text
 
 
 def schema_runs(program: Words, folder: pathlib.Path) -> tuple[int, int]:
     """How many values there were, and how many the schema judges wrongly."""
     runs, wrong = validator_runs()
-    small, counts = [], dict.fromkeys(("report", "explanation", "answer"), 0)
+    small, counts = [], dict.fromkeys(("report", "explanation", "greeting", "answer", "fault", "verdict"), 0)
     for name, kind, text in values_of(program, folder / "setup.toml"):
         value, runs = json.loads(text), runs + 1
         counts[kind] += 1
@@ -229,7 +234,7 @@ def schema_runs(program: Words, folder: pathlib.Path) -> tuple[int, int]:
             wrong += 1
         if len(text) < LARGE:
             small.append((name, "fault" if "fault" in value else kind, value))
-    if min(counts.values()) < 100:
+    if min(counts.values()) < 20:
         print(f"== too little was written as JSON: {counts}")
         wrong += 1
     for what, kind, value in mutants(small, MUTATED) if small else ():

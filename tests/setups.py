@@ -6,7 +6,7 @@ from program import TOP, Case
 CONFIG = TOP / "examples" / "hermes" / "config.toml"
 HEAD = """# Made of Hermes' configuration. FROM and UNTIL are to be written. A fee is gas times the price of gas; the numbers of gas are
 # guesses: put in those of your chains. What the answer on a client's state has is left out.
-# The nodes, as examples/collect reads them: a chain, the address of its node, that of its gateway.
+# The nodes: a chain, the address of its node, that of its gateway.
 """
 END = '[[turn]]\nfrom = "FROM"\nuntil = "UNTIL"\n'
 GAS = 80_000, 3_000, 200

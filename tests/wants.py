@@ -1,8 +1,7 @@
-"""Runs of `want` over folders that are made step by step, and of `examples/collect` over made-up nodes: how many requests it makes, none of them twice,
+"""Runs of `want` over folders that are made step by step, and of the relayer's `fetch` over made-up nodes: how many requests it makes, none of them twice,
 and whether what it saves plans as well as all heights would."""
 import contextlib
 import json
-import os
 import pathlib
 import re
 import shutil
@@ -13,7 +12,7 @@ import urllib.parse
 
 import answers
 import nodes
-from nodes import Host, LongChain, least_fee, serve
+from nodes import Host, LongChain, fetching, least_fee, serve
 from program import CONTROL, TOP, Case
 
 sys.path.insert(0, str(TOP / "tests" / "reference"))
@@ -260,8 +259,8 @@ def want_path_cases(top):
         yield OnceCase(f"want of a path, {refused} refused", ["want", str(top / f"want-path-{number}.toml"), str(folder)], b"", wanted.encode(), told, 0)
 
 
-def collected_path(program, folder, packets, edit=str):
-    """What is wrong with a run of `examples/collect` for a setup with a path over which these packets go, its text, and the script that `import` makes of what it
+def fetched_path(program, folder, packets, edit=str):
+    """What is wrong with a run of the relayer's `fetch` for a setup with a path over which these packets go, its text, and the script that `import` makes of what it
     saves."""
     folder.mkdir()
     hub, zone = LongChain("hub-4", "quiet", 100, 6), LongChain("zone-1", "quiet", 100, 6)
@@ -275,10 +274,9 @@ def collected_path(program, folder, packets, edit=str):
     (folder / "setup.toml").write_text(text)
     with contextlib.ExitStack() as stack:
         served = [stack.enter_context(serve(host.answer, paths)) for host, paths in zip(hosts, asked)]
-        (folder / "nodes").write_text("".join(f"{chain.name} {rpc} {rest}\n" for chain, rpc, rest in zip((hub, zone), served[::2], served[1::2])))
-        words = [TOP / "examples" / "collect", "--setup", folder / "setup.toml", folder / "answers", folder / "nodes"]
-        collecting = subprocess.run(words, env={**os.environ, "IBCPLAN": program}, capture_output=True, timeout=600)
-    flaws = [] if collecting.returncode == 0 else [f"status {collecting.returncode}: {collecting.stderr.decode()}"]
+        words = fetching(folder / "relayer.toml", program, {chain.name: pair for chain, *pair in zip((hub, zone), served[::2], served[1::2])})
+        fetched = subprocess.run([*words, folder / "setup.toml", folder / "answers"], capture_output=True, timeout=600)
+    flaws = [] if fetched.returncode == 0 else [f"status {fetched.returncode}: {fetched.stderr.decode()}"]
     flaws += [f"twice asked: {path}" for paths in asked for path in {path for path in paths if paths.count(path) > 1}]
     script = subprocess.run([program, "import", folder / "setup.toml", folder / "answers"], capture_output=True).stdout
     return flaws, text, script
@@ -291,7 +289,7 @@ def time_flaws(program, folder):
     chain, packets = LongChain("hub-4", "quiet", 100, 6), {5: (60, 70, 70), 8: (61, 0, 0), 7: (62, 71, 75), 9: (64, 0, 0)}
     found = []
     for name, waits in ("none", "[0, 0, 9]"), ("both", "[9, 9, 0]"):
-        flaws, _, script = collected_path(program, folder / name, packets, lambda text: text.replace("gas = [5, 5, 5]", f"gas = [5, 5, 5]\nwait_ns = {waits}"))
+        flaws, _, script = fetched_path(program, folder / name, packets, lambda text: text.replace("gas = [5, 5, 5]", f"gas = [5, 5, 5]\nwait_ns = {waits}"))
         found += [f"{name}: {flaw}" for flaw in flaws]
         events = answers.with_numbers(tomllib.loads(script.decode()))["turn"][-1]["event"] if script else []
         times = {(event["kind"], event["seq"]): event["time"] for event in events if event["kind"] in ("sent", "ack") and "time" in event}
@@ -302,9 +300,9 @@ def time_flaws(program, folder):
 
 
 def packet_flaws(program, folder):
-    """What is wrong with a run of `examples/collect` for a setup with a path, and with `import`, `plan` and `commands` over what it saves: the plan is the
+    """What is wrong with a run of the relayer's `fetch` for a setup with a path, and with `import`, `plan` and `commands` over what it saves: the plan is the
     second planner's, and the commands name all pending packets that can be proved."""
-    flaws, text, script = collected_path(program, folder, PACKETS)
+    flaws, text, script = fetched_path(program, folder, PACKETS)
     given = answers.with_numbers(tomllib.loads(script.decode()))
     flaws += [] if given == answers.script_of(text, folder / "answers") else ["import writes another script"]
     report = reference.report(reference.read_script(script)) if script else ""
@@ -318,7 +316,7 @@ def packet_flaws(program, folder):
 
 # a name, a chain, the heights that the client has stored, a goal, the height that has to be reached, the most requests, and how many updates the plan has
 # (0: as many as it takes, at most 3 % above the least over all heights)
-COLLECTS = [
+FETCHES = [
     ("quiet", LongChain("hub-4", "quiet", 100_000, 180), [20_000, 20_500], "", 99_999, 12, 1),
     ("all change at once", LongChain("hub-4", "switch", 100_000, 180, 57_122), [19_000, 20_000], "", 99_999, 60, 2),
     ("all change at once, to a goal", LongChain("hub-4", "switch", 100_000, 180, 57_122), [20_000], "at_least = 60_000", 60_000, 60, 2),
@@ -328,18 +326,17 @@ COLLECTS = [
 ]
 
 
-PAGE, ROUNDS = 40, re.compile(rb"collect: \d+ requests in (\d+) rounds")
+PAGE, ROUNDS = 40, re.compile(rb"fetched: requests \d+, rounds (\d+)")
 
 
-def collected(folder, chain, stored, goal, program, page=1000):
-    """The requests of a run of `examples/collect`, and what it ends with."""
+def fetched(folder, chain, stored, goal, program, page=1000):
+    """The requests of a run of the relayer's `fetch`, and what it ends with."""
     folder.mkdir()
     (folder / "setup.toml").write_text(setup_of(chain, goal))
     asked, host = [], Host(chain, {CLIENT: stored}, page)
     with serve(chain.answer, asked) as rpc, serve(host.answer, asked) as rest:
-        (folder / "nodes").write_text(f"hub-4 {rpc} -\nzone-1 - {rest}\n")
-        words = [TOP / "examples" / "collect", "--setup", folder / "setup.toml", folder / "answers", folder / "nodes"]
-        done = subprocess.run(words, env={**os.environ, "IBCPLAN": program}, capture_output=True, timeout=600)
+        words = fetching(folder / "relayer.toml", program, {"hub-4": (rpc, None), "zone-1": (None, rest)})
+        done = subprocess.run([*words, folder / "setup.toml", folder / "answers"], capture_output=True, timeout=600)
     return asked, done
 
 
@@ -421,8 +418,8 @@ def renamed_page_flaws(program, folder):
 
 
 def refusal_flaws(program, folder):
-    """What is wrong with a run of `examples/collect` whose node refuses a height, in words with control characters."""
-    _, done = collected(folder, LongChain("hub-4", "switch", 100, 6, 70, lowest=60), [52], "", program)
+    """What is wrong with a run of the relayer's `fetch` whose node refuses a height, in words with control characters."""
+    _, done = fetched(folder, LongChain("hub-4", "switch", 100, 6, 70, lowest=60), [52], "", program)
     told = done.stderr.decode()
     flaws = [] if done.returncode == 0 else [f"status {done.returncode}: {told}"]
     flaws += ["control characters are told"] if CONTROL.search(told) else []
@@ -430,7 +427,7 @@ def refusal_flaws(program, folder):
 
 
 def shared_flaws(program, folder):
-    """What is wrong with a run of `examples/collect` for two clients of one chain, which ask for the same heights at its change: none is asked for twice."""
+    """What is wrong with a run of the relayer's `fetch` for two clients of one chain, which ask for the same heights at its change: none is asked for twice."""
     folder.mkdir()
     chain, other = LongChain("hub-4", "switch", 100_000, 60, 57_122), "07-tendermint-4"
     text = setup_of(chain, "")
@@ -438,9 +435,8 @@ def shared_flaws(program, folder):
     (folder / "setup.toml").write_text(text.replace("[[turn]]", second + "[[turn]]"))
     asked, host = [], Host(chain, {CLIENT: [20_000], other: [20_000]})
     with serve(chain.answer, asked) as rpc, serve(host.answer, asked) as rest:
-        (folder / "nodes").write_text(f"hub-4 {rpc} -\nzone-1 - {rest}\n")
-        words = [TOP / "examples" / "collect", "--setup", folder / "setup.toml", folder / "answers", folder / "nodes"]
-        done = subprocess.run(words, env={**os.environ, "IBCPLAN": program}, capture_output=True, timeout=600)
+        words = fetching(folder / "relayer.toml", program, {"hub-4": (rpc, None), "zone-1": (None, rest)})
+        done = subprocess.run([*words, folder / "setup.toml", folder / "answers"], capture_output=True, timeout=600)
     flaws = [] if done.returncode == 0 else [f"status {done.returncode}: {done.stderr.decode()}"]
     flaws += [f"twice asked: {path}" for path in {path for path in asked if asked.count(path) > 1}]
     own = [path for path in asked if CLIENT in path or other in path]
@@ -449,7 +445,7 @@ def shared_flaws(program, folder):
 
 
 def busy_flaws(program, folder):
-    """What is wrong with a run of `examples/collect` whose node is busy at times, and has pruned heights: what may pass is tried again, what can't is asked once."""
+    """What is wrong with a run of the relayer's `fetch` whose node is busy at times, and has pruned heights: what may pass is tried again, what can't is asked once."""
     folder.mkdir()
     chain = LongChain("hub-4", "switch", 100, 6, 70, lowest=60)
     (folder / "setup.toml").write_text(setup_of(chain, ""))
@@ -462,21 +458,36 @@ def busy_flaws(program, folder):
         return chain.answer(path, words)
 
     with serve(answer, asked) as rpc, serve(host.answer, asked) as rest:
-        (folder / "nodes").write_text(f"hub-4 {rpc} -\nzone-1 - {rest}\n")
-        words = [TOP / "examples" / "collect", "--setup", folder / "setup.toml", folder / "answers", folder / "nodes"]
-        done = subprocess.run(words, env={**os.environ, "IBCPLAN": program}, capture_output=True, timeout=600)
+        words = fetching(folder / "relayer.toml", program, {"hub-4": (rpc, None), "zone-1": (None, rest)})
+        done = subprocess.run([*words, folder / "setup.toml", folder / "answers"], capture_output=True, timeout=600)
     flaws = [] if done.returncode == 0 else [f"status {done.returncode}: {done.stderr.decode()}"]
     twice = sorted({path for path in asked if asked.count(path) > 1})
     flaws += [] if twice == ["/status"] and asked.count("/status") == 2 else [f"twice asked: {twice}"]
     return flaws + ([] if (folder / "answers" / "hub-4" / "commit-99.json").exists() else ["height 99 isn't saved"])
 
 
-def run_collects(program, top, is_told=False):
-    """Runs of `examples/collect` with this program: how many there were, and how many didn't go as they have to."""
+def missing_flaws(program, folder):
+    """What is wrong with runs of the relayer's `fetch` without a node, or without a gateway: that is told, and the other answers are saved."""
+    folder.mkdir()
+    chain, flaws = LongChain("hub-4", "quiet", 100, 6), []
+    host = Host(chain, {CLIENT: [52]})
+    (folder / "setup.toml").write_text(setup_of(chain, ""))
+    with serve(chain.answer, []) as rpc, serve(host.answer, []) as rest:
+        for name, kind, addresses, saved in (("hub-4", "node", {"hub-4": (None, None), "zone-1": (None, rest)}, f"{CLIENT}/client_state.json"),
+                                             ("zone-1", "gateway", {"hub-4": (rpc, None), "zone-1": (None, None)}, "hub-4/status")):
+            words = fetching(folder / f"{kind}.toml", program, addresses)
+            done = subprocess.run([*words, folder / "setup.toml", folder / kind], capture_output=True, timeout=600)
+            is_told = f"nobody answers: chain {name}, kind {kind}" in done.stderr.decode()
+            flaws += [] if done.returncode == 1 and is_told and (folder / kind / saved).exists() else [f"no {kind}: status {done.returncode}: {done.stderr.decode()}"]
+    return flaws
+
+
+def run_fetches(program, top, is_told=False):
+    """Runs of the relayer's `fetch` with this program: how many there were, and how many didn't go as they have to."""
     wrong = 0
-    for name, chain, stored, goal, height, most, updates in COLLECTS:
-        folder = top / f"collect {name}"
-        asked, done = collected(folder, chain, stored, goal, program, page=PAGE)
+    for name, chain, stored, goal, height, most, updates in FETCHES:
+        folder = top / f"fetch {name}"
+        asked, done = fetched(folder, chain, stored, goal, program, page=PAGE)
         flaws = [] if done.returncode == 0 else [f"status {done.returncode}: {done.stderr.decode()}"]
         flaws += [f"{len(asked)} requests, and not at most {most}"] if len(asked) > most else []
         # a round for each page of consensus states; from each trusted height one for each page of the set of a height that halves the gap, and of the first
@@ -497,19 +508,19 @@ def run_collects(program, top, is_told=False):
             flaws += [f"{plan[0]} for {plan[1]}, and {least[0]} for {least[1]} over all heights"] if plan[0] > 1.03 * least[0] else []
             name += f", {plan[0] / least[0] - 1:.2%} above the least"
         if is_told or flaws:
-            print(f"== collect, {name}: {len(asked)} requests, {len(plan[1]) if plan else 'no'} updates", *flaws, sep="\n-- ")
+            print(f"== fetch, {name}: {len(asked)} requests, {len(plan[1]) if plan else 'no'} updates", *flaws, sep="\n-- ")
         wrong += bool(flaws)
         shutil.rmtree(folder)
     for name, flaws_of in ("a height refused", refusal_flaws), ("two clients of one chain", shared_flaws), ("a busy node", busy_flaws), ("packets", packet_flaws), ("times", time_flaws), \
-            ("lost pages", lost_page_flaws), ("renamed pages", renamed_page_flaws):
-        flaws = flaws_of(program, top / f"collect, {name}")
+            ("lost pages", lost_page_flaws), ("renamed pages", renamed_page_flaws), ("missing sources", missing_flaws):
+        flaws = flaws_of(program, top / f"fetch, {name}")
         if is_told or flaws:
-            print(f"== collect, {name}", *flaws, sep="\n-- ")
+            print(f"== fetch, {name}", *flaws, sep="\n-- ")
         wrong += bool(flaws)
-    return len(COLLECTS) + 7, wrong
+    return len(FETCHES) + 8, wrong
 
 
 if __name__ == "__main__":  # tests/wants.py PROGRAM
     import tempfile
     with tempfile.TemporaryDirectory() as path:
-        print(run_collects(sys.argv[1], pathlib.Path(path), True))
+        print(run_fetches(sys.argv[1], pathlib.Path(path), True))

@@ -1,7 +1,6 @@
-"""The way from nodes that README shows, for tests/run: `setup --hermes`, `examples/collect`, `import`, `plan`, `messages` and `commands` in a row, each of which
+"""The way from nodes that README shows, for tests/run: `setup --hermes`, the relayer's `fetch`, `import`, `plan`, `messages` and `commands` in a row, each of which
 reads what the one before wrote, over made-up nodes. What each writes is made a second time; and at the end the messages and the commands send the plan's updates."""
 import contextlib
-import os
 import pathlib
 import re
 import subprocess
@@ -14,7 +13,6 @@ import setups
 from messages import run_messages, sent_in
 from nodes import Host, LongChain, serve
 from outputs import commands_of
-from program import TOP
 from schema import read_json
 from wants import BACK, CLIENT, PACKETS, PATH, reference
 
@@ -63,10 +61,9 @@ def way_flaws(program, folder, hub, stored, before, behind, updates, packets):
         text = text.replace("FROM", begin).replace("UNTIL", end).replace("[[turn]]", f"{before}[[turn]]") + behind
         (folder / "setup.toml").write_text(text)
         lines = re.findall(r"^# (\S+) (http\S+) -$", text, re.M)
-        (folder / "nodes").write_text("".join(f"{chain} {address} {rest[chain]}\n" for chain, address in lines))
-        collect = [TOP / "examples" / "collect", "--setup", folder / "setup.toml", saved, folder / "nodes"]
-        done = subprocess.run(collect, env={**os.environ, "IBCPLAN": program[0]}, capture_output=True, timeout=600)
-    flaws += [] if done.returncode == 0 else [f"collect: status {done.returncode}: {done.stderr.decode()}"]
+        words = nodes.fetching(folder / "relayer.toml", program[0], {chain: (address, rest[chain]) for chain, address in lines})
+        done = subprocess.run([*words, folder / "setup.toml", saved], capture_output=True, timeout=600)
+    flaws += [] if done.returncode == 0 else [f"fetch: status {done.returncode}: {done.stderr.decode()}"]
     flaws += [f"twice asked: {path} of {host}" for host, paths in asked.items() for path in {path for path in paths if paths.count(path) > 1}]
     files, requests = sum(path.is_file() for path in saved.glob("*/*")), sum(map(len, asked.values()))
     flaws += [] if files == requests else [f"{files} answers to {requests} requests"]
@@ -90,6 +87,11 @@ def way_flaws(program, folder, hub, stored, before, behind, updates, packets):
     # `messages` over these answers, whose files, lines and shell file are made a second time: one for each update of the plan
     count, _, is_good = run_messages(program, folder, folder / "setup.toml", saved, "messages", False)
     flaws += [] if is_good and count == len(sent) and (folder / "messages.toml").read_text() == script else [f"messages: {count} for {len(sent)} updates"]
+    # of the setup itself the same lines and files are made
+    of_setup, failed = written_by(program, "messages", folder / "setup.toml", saved, folder / "of setup")
+    of_script, more = written_by(program, "messages", folder / "script.toml", saved, folder / "of script")
+    both = [{path.name: path.read_bytes() for path in (folder / name).glob("*")} for name in ("of setup", "of script")]
+    flaws += failed + more + ([] if of_setup == of_script and both[0] == both[1] else ["messages of a setup makes others than of its script"])
     told, failed = written_by(program, "commands", "--last", folder / "script.toml")
     flaws += failed + ([] if told == commands_of(table, report, len(table["turn"])) else [f"other commands: {told}"])
     lines = [line for line in told.splitlines() if line.startswith("hermes ")]

@@ -213,12 +213,16 @@ class Chain:
             if self.is_halted:
                 return
             while self.slot + self.seconds * 10**9 + 10**6 <= nanos:
-                self.slot += self.seconds * 10**9
-                self.latest += 1
-                self.times[self.latest] = self.slot + self.chance.randrange(10**6)
-                pool, self.pool = self.pool, []
-                for hash_text, tx in pool:
-                    self.include(hash_text, tx)
+                self.make_block()
+
+    def make_block(self):
+        """The next block, with the transactions that wait."""
+        self.slot += self.seconds * 10**9
+        self.latest += 1
+        self.times[self.latest] = self.slot + self.chance.randrange(10**6)
+        pool, self.pool = self.pool, []
+        for hash_text, tx in pool:
+            self.include(hash_text, tx)
 
     def resume(self, nanos):
         """Goes on after a halt, with a block of this moment."""
@@ -285,16 +289,27 @@ class Chain:
         if 0 < int(tx["body"]["timeout_height"]) < self.latest or tx["sequence"] != self.sequences.get(tx["signer"], 0):
             return
         self.sequences[tx["signer"]] = tx["sequence"] + 1
-        code, log, before = 0, "", {name: dict(client.states) for name, client in self.clients.items()}
+        code, log, before = 0, "", self.saved()
         for message in tx["body"]["messages"]:
             try:
-                self.clients[message["client_id"]].update(message["client_message"], self.times[self.latest])
+                self.take(message)
             except Refusal as refusal:
                 code, log = 8, str(refusal)
-                for name, states in before.items():
-                    self.clients[name].states = states
+                self.restore(before)
                 break
         self.results[hash_text] = {"hash": hash_text, "height": str(self.latest), "index": 0, "tx_result": {"code": code, "log": log, "gas_wanted": "1", "gas_used": "91000", "events": []}}
+
+    def take(self, message):
+        """Does what a message says, or refuses it."""
+        self.clients[message["client_id"]].update(message["client_message"], self.times[self.latest])
+
+    def saved(self):
+        """What a transaction that fails leaves as it was."""
+        return {name: (dict(client.states), client.updates) for name, client in self.clients.items()}
+
+    def restore(self, before):
+        for name, (states, updates) in before.items():
+            self.clients[name].states, self.clients[name].updates = states, updates
 
     def at(self, height):
         return {"revision_number": self.name.rsplit("-", 1)[1], "revision_height": str(height)}

@@ -5,7 +5,7 @@ import time
 from relaying.serving import GATEWAY_FAULTS, NODE_FAULTS
 
 FAULTS = [fault for fault in NODE_FAULTS if fault not in ("drip", "endless")]  # without those that take real seconds
-MOMENTS = "make", "sign", "broadcast before", "broadcast after"
+MOMENTS = "keys", "sign", "encode", "broadcast before", "broadcast after"
 
 
 class Days:
@@ -25,22 +25,47 @@ class Days:
         if self.halted:
             self.halted.is_halted = True
 
+    def send(self):
+        """Packets on some ends of channels, of which a few expire soon."""
+        for chain in self.world.chains.values():
+            for channel in getattr(chain, "ends", ()):
+                for _ in range(self.chance.choice((0, 0, 0, 2))):
+                    chain.send(channel, self.chance.randbytes(20), seconds=self.chance.choice((0, 0, 0, 90)))
+
+    def calm(self, rounds, blocks=30):
+        """Rounds without faults and without new packets, until none is pending; how many there were."""
+        for sources in self.world.sources.values():
+            sources[0].fault = None
+        if self.halted:
+            self.halted.resume(self.world.clock.now())
+        with self.world.relaying() as relayer:
+            for number in range(rounds):
+                if not any(chain.pending() for chain in self.world.chains.values()):
+                    return number
+                self.world.forward(blocks)
+                relayer.round()
+                relayer.senders.wait()
+        return rounds
+
     def kill(self):
         """A relayer that is killed in the midst of a transaction, if it sends one."""
         (self.world.folder / "die").write_text(self.chance.choice(MOMENTS))
         self.world.run("once")
         (self.world.folder / "die").unlink(missing_ok=True)
 
-    def pass_by(self, rounds, blocks):
-        """Rounds of one relayer, with so many blocks before each."""
+    def pass_by(self, rounds, blocks, take=lambda script: None):
+        """Rounds of one relayer, with so many blocks before each; a function takes the scripts of those that send."""
         with self.world.relaying() as relayer:
             for _ in range(rounds):
                 self.change()
+                self.send()
                 self.world.forward(blocks)
                 begin = time.monotonic()
                 report = relayer.round()
                 relayer.senders.wait()
                 self.rounds.append((any(outcome.sent for outcome in report.clients), report.requests, time.monotonic() - begin))
+                for script in relayer.config.folder.glob("round/*/*/script.toml") if self.rounds[-1][0] else ():
+                    take(script)
                 for outcome in report.clients:
                     self.words[outcome.word] = self.words.get(outcome.word, 0) + 1
 

@@ -4,6 +4,7 @@ import contextlib
 import copy
 import http.server
 import json
+import re
 import socket
 import socketserver
 import threading
@@ -13,6 +14,7 @@ import urllib.parse
 import answers
 from program import STEERING
 from relaying.chains import Chain
+from relaying.channels import PacketChain
 
 PAGE = 1000
 
@@ -27,6 +29,7 @@ class Source:
     def __init__(self, chain, kind, clock):
         self.chain, self.kind, self.clock, self.fault, self.asked, self.address = chain, kind, clock, None, [], ""
         self.elsewhere, self.back = None, 0  # where it redirects to; by how many blocks it is behind
+        self.frozen_clients, self.frozen_at = {}, 0  # what a stale gateway tells, and of which block
 
     def answer(self, path, asked):
         """The status and the answer."""
@@ -75,6 +78,10 @@ def node_answer(source, path, asked):
         return result({"txs": chain.past_updates[:int(asked["per_page"][0])], "total_count": str(len(chain.past_updates))})
     if path == "/tx_search":
         return chain.transfers.search(asked["query"][0])
+    if path == "/abci_query":
+        return chain.proof(asked)
+    if path == "/block_results":
+        return result(chain.block_results(int(asked.get("height", [str(latest)])[0])))
     height = int(asked.get("height", [str(latest)])[0])
     if height > latest:
         return error(f"height {height} must be less than or equal to the current blockchain height {latest}")
@@ -117,13 +124,14 @@ def consensus_state(chain_of, height, stored):
 
 def gateway_answer(source, path, asked):
     chain = source.chain
-    clients = source.frozen_clients if source.fault == "stale" else chain.clients
+    is_stale = source.fault == "stale"
+    clients, at = (source.frozen_clients, chain.at(source.frozen_at)) if is_stale else (chain.clients, chain.at(chain.latest))
     parts = path.strip("/").split("/")
     if path.startswith("/ibc/core/client/v1/client_states/"):
         client = clients.get(parts[-1])
         if client is None:
             return 404, {"code": 5, "message": "light client not found", "details": []}
-        return 200, {"client_state": client_state(client.tracked, client), "proof": None, "proof_height": chain.at(chain.latest)}
+        return 200, {"client_state": client_state(client.tracked, client), "proof": None, "proof_height": at}
     if path == "/ibc/core/client/v1/client_states":
         found = [{"client_id": name, "client_state": client_state(client.tracked, client)} for name, client in clients.items()]
         return 200, {"client_states": found, "pagination": {"next_key": None, "total": "0"}}
@@ -141,6 +149,9 @@ def gateway_answer(source, path, asked):
         return 200, {"channel": chain.channels[parts[5]], "proof": None}
     if parts[5:6] == ["channel-7"] and parts[8:] == ["packet_commitments"]:  # no packets go this way
         return 200, {"commitments": [], "pagination": {"next_key": None, "total": "0"}, "height": chain.at(chain.latest)}
+    if len(parts) > 8 and isinstance(chain, PacketChain):
+        with chain.lock:
+            return chain.answer_on(path, asked, chain.snapshots[source.frozen_at].values if is_stale else chain.values, at)
     if len(parts) > 8 and parts[6] == "ports":
         return chain.transfers.pending(path, asked)
     if path == "/ibc/core/connection/v1/connections":
@@ -191,6 +202,27 @@ def future(_, path, value):
     return value
 
 
+def other_proofs(_, path, value):
+    """A proof with a byte that is another."""
+    if path == "/abci_query":
+        op = value["result"]["response"]["proofOps"]["ops"][0]
+        proof = bytearray(base64.b64decode(op["data"]))
+        proof[-1] ^= 1
+        op["data"] = base64.b64encode(proof).decode()
+    return value
+
+
+def no_proofs(_, path, value):
+    if path == "/abci_query":
+        value["result"]["response"]["proofOps"] = None
+    return value
+
+
+def other_packets(_, path, value):
+    """Packets with other data."""
+    return json.loads(re.sub(r'(?<="packet_data_hex", "value": ")[0-9a-f]{2}', "ff", json.dumps(value))) if path == "/tx_search" else value
+
+
 def other_chain(_, path, value):
     return json.loads(json.dumps(value).replace("hub-4", "hub-5").replace("zone-1", "zone-9"))
 
@@ -227,8 +259,9 @@ def steered(_, path, value):
 
 
 LIES = {"other root": on_commit(other_root), "torn header": on_commit(torn_header), "bad signatures": on_commit(bad_signatures), "high": high, "future": future, "other chain": other_chain,
-        "other records": other_records, "made up": made_up, "steered": steered}
-NODE_FAULTS = ["dead", "busy", "page", "list", "error", "redirect", "drip", "endless", "catching up", *(name for name in LIES if name != "other records")]
+        "other records": other_records, "made up": made_up, "steered": steered, "other proofs": other_proofs, "no proofs": no_proofs, "other packets": other_packets}
+OF_OTHERS = "other records", "other proofs", "no proofs", "other packets"  # lies of gateways, or about packets alone
+NODE_FAULTS = ["dead", "busy", "page", "list", "error", "redirect", "drip", "endless", "catching up", *(name for name in LIES if name not in OF_OTHERS)]
 GATEWAY_FAULTS = ["dead", "busy", "page", "list", "error", "redirect", "drip", "other records", "steered", "other chain"]
 
 

@@ -26,12 +26,12 @@ PROGRAM = json.dumps([sys.executable, "-SE", str(TOP / "tests" / "relaying" / "c
 class World:
     """Chains by name, clients (host, id, tracked chain), and sources of each chain: several nodes and gateways."""
 
-    def __init__(self, folder, program, names=("hub-4", "zone-1"), nodes=1, gateways=1, period=86_400, refresh=0, blocks=30, **kinds):
+    def __init__(self, folder, program, names=("hub-4", "zone-1"), nodes=1, gateways=1, period=86_400, refresh=0, blocks=30, kind=Chain, **kinds):
         self.folder, self.period, self.refresh, self.program = folder, period, refresh, program
         folder.mkdir(parents=True)
-        self.chains = {name: Chain(name, 1, **kinds) for name in names}
+        self.chains = {name: kind(name, 1, **kinds) for name in names}
         self.clock = WorldClock(folder / "time", chains.BEGIN + blocks * 6 * 10**9 + 10**6, self.chains.values())
-        self.clients, self.answer_seconds = {}, 60
+        self.clients, self.paths, self.answer_seconds = {}, [], 60
         self.sources = {(name, kind): [Source(chain, kind, self.clock) for _ in range(count)]
                         for name, chain in self.chains.items() for kind, count in (("node", nodes), ("gateway", gateways))}
         self.extra, self.stack = "", contextlib.ExitStack()
@@ -58,6 +58,20 @@ class World:
             self.chains[chain].channels[channel] = {"state": "STATE_OPEN", "ordering": "ORDER_UNORDERED", "counterparty": {"port_id": other_port, "channel_id": other_channel},
                                                     "connection_hops": ["connection-3"], "version": "ics20-1", "port_id": port, "channel_id": channel}
 
+    def open(self, source, dest, is_ordered=False, **more):
+        """A channel between two chains with channels (relaying.channels) that have a client of each other, and both of its directions."""
+        ends = []
+        for chain, other in (source, dest), (dest, source):
+            client = next(name for host, name, of in self.clients.values() if (host, of) == (chain, other))
+            ends.append(self.chains[chain].open(client, ("transfer", f"channel-{10 * [*self.chains].index(chain) + len(self.chains[chain].ends)}"), is_ordered))
+        for end, other in (ends, ends[::-1]):
+            end.other = other
+            self.paths.append({"source": end.own.name, "port": end.end[0], "channel": end.end[1], "dest": other.own.name, "counterparty_port": other.end[0],
+                               "counterparty_channel": other.end[1], "order": "ordered" if is_ordered else "unordered", "forward": f"{other.own.name}.{other.client}",
+                               "back": f"{end.own.name}.{end.client}", **more})
+        self.write()
+        return [end.end[1] for end in ends]
+
     def __enter__(self):
         for sources in self.sources.values():
             for source in sources:
@@ -75,9 +89,10 @@ class World:
         for name in self.chains:
             nodes, gateways = ([source.address for source in self.sources[name, kind]] for kind in ("node", "gateway"))
             text += f'[[chain]]\nid = "{name}"\nnodes = {json.dumps(nodes)}\ngateways = {json.dumps(gateways)}\n'
-            text += f'program = {PROGRAM}\nsigner = "relayer"\noptions = ["--keyring-backend", "test"]\n\n'
+            text += f'program = {PROGRAM}\nsigner = "relayer"\noptions = ["--keyring-backend", "test", "--sign-mode", "direct"]\ngas_price = "0.025uatom"\n\n'
         for host, name, of in self.clients.values():
             text += f'[[client]]\nhost = "{host}"\nid = "{name}"\nof = "{of}"\n' + (f"refresh_seconds = {self.refresh}\n" if self.refresh else "")
+        text += "".join("[[path]]\n" + "".join(f"{key} = {json.dumps(value)}\n" for key, value in path.items()) for path in self.paths)
         (self.folder / "relayer.toml").write_text(text)
 
     # ---- runs
@@ -122,6 +137,7 @@ class World:
     def freeze(self, name):
         """What a stale gateway of a chain tells from now on."""
         for source in self.sources[name, "gateway"]:
+            source.frozen_at = self.chains[name].latest - 1
             source.frozen_clients = {client: copy.copy(found) for client, found in self.chains[name].clients.items()}
             for found in source.frozen_clients.values():
                 found.states = dict(found.states)
@@ -141,4 +157,7 @@ class World:
             host = self.chains[self.clients[name][0]]
             found += [f"{name}: {client.repeats} updates to stored heights"] if client.repeats else []
             found += [f"{name} has expired"] if client.expires() <= host.times[host.latest] else []
+        for end, other in ((end, end.other) for chain in self.chains.values() for end in getattr(chain, "ends", {}).values()):
+            told = [(kind, number) for _, kind, number, source, _ in end.own.events + other.own.events if source == end.end[1]]
+            found += [f"{end.own.name}: {each} twice" for each in set(told) if told.count(each) > 1]
         return found + [f"{path} was made" for path in self.folder.rglob("here")]
