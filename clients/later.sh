@@ -1,4 +1,4 @@
 #!/bin/sh
-# For the clients' tests: a program that begins as later releases of `ibcplan follow --json` do, and then answers as the one that IBCPLAN names.
-echo '{"ibcplan": 3, "program": "ibcplan 9"}'
-exec "$IBCPLAN" "$@"
+# For the clients' tests: a program that answers in a format that the clients don't read.
+echo '{"ibcplan": 5, "program": "ibcplan 9.0.0", "scripts": [5]}'
+exec cat >/dev/null

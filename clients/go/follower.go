@@ -4,7 +4,6 @@ import (
 	"bufio"
 	"encoding/json"
 	"io"
-	"os"
 	"os/exec"
 	"strings"
 	"sync"
@@ -107,14 +106,16 @@ func (follower *Follower) Close() {
 
 // start starts the process, and gives the answers to the journal's turns.
 func (follower *Follower) start() ([]string, error) {
-	path, err := fileWith(follower.setup)
+	setup, err := documentOf(follower.setup)
 	if err != nil {
 		return nil, err
 	}
-	defer os.Remove(path)
-	words := follower.planner.withWorkers([]string{"follow", "--json", path})
+	words := follower.planner.withWorkers([]string{"follow", "--json", "-"})
 	if follower.journal != "" {
 		words = append(words, "--journal", follower.journal)
+	}
+	if follower.planner.NoLabels {
+		words = append(words, "--no-labels")
 	}
 	started, err := startRun(exec.Command(follower.planner.Program, words...))
 	if err != nil {
@@ -123,7 +124,7 @@ func (follower *Follower) start() ([]string, error) {
 	follower.lock.Lock()
 	follower.run = started
 	follower.lock.Unlock()
-	lines, err := started.begin()
+	lines, err := started.begin(setup)
 	if err != nil {
 		follower.Close()
 		return nil, err
@@ -155,16 +156,28 @@ func startRun(command *exec.Cmd) (*run, error) {
 	return started, command.Start()
 }
 
-// begin gives the old answers: a fault, to an empty document, marks their end.
-func (run *run) begin() ([]string, error) {
+// begin tells the setup, reads what the process begins with, and gives the old answers: a fault, to an empty document, marks
+// their end.
+func (run *run) begin(setup string) ([]string, error) {
+	line, err := run.exchange(setup + "\n---\n")
+	if err != nil {
+		return nil, err
+	}
+	if _, isFault := faultOf(line); isFault {
+		return nil, run.ended(line) // of the setup
+	}
+	var greeting Report
+	if err := json.Unmarshal([]byte(line), &greeting); err != nil {
+		return nil, err
+	}
+	if err := checkFormat(greeting.Format); err != nil {
+		return nil, err
+	}
 	var past []string
-	for line, err := run.exchange("\n---\n"); ; line, err = run.line() {
+	for {
+		line, err := run.line()
 		if err != nil {
 			return nil, err
-		}
-		// later releases begin with an object that tells what they are, which answers nothing
-		if strings.HasPrefix(line, `{"ibcplan"`) {
-			continue
 		}
 		if _, isFault := faultOf(line); isFault {
 			return past, nil
@@ -176,7 +189,12 @@ func (run *run) begin() ([]string, error) {
 // exchange writes a document, and reads a line.
 func (run *run) exchange(document string) (string, error) {
 	if _, err := io.WriteString(run.turns, document); err != nil {
-		return "", run.ended() // it said why
+		// it said why, on standard output if the setup has a fault
+		line, err := run.line()
+		if err != nil {
+			return "", err
+		}
+		return "", run.ended(line)
 	}
 	return run.line()
 }
@@ -184,7 +202,7 @@ func (run *run) exchange(document string) (string, error) {
 func (run *run) line() (string, error) {
 	line, err := run.answers.ReadString('\n')
 	if err != nil {
-		return "", run.ended()
+		return "", run.ended("")
 	}
 	return line, nil
 }
@@ -193,10 +211,10 @@ func (run *run) wait() {
 	run.once.Do(func() { _ = run.command.Wait() }) // the status is that of ProcessState
 }
 
-// ended tells why the process ended.
-func (run *run) ended() error {
+// ended tells why the process ended, of which this is the last line.
+func (run *run) ended(line string) error {
 	run.wait()
-	return errorOf(run.command.ProcessState.ExitCode(), run.said.text())
+	return errorOf(run.command.ProcessState.ExitCode(), line, run.said.text())
 }
 
 // A tail remembers the end of what is written to it.
@@ -221,14 +239,14 @@ func (tail *tail) text() string {
 	return string(tail.bytes)
 }
 
-// documentOf gives a turn as the process reads it.
-func documentOf(turn string) (string, error) {
-	for _, line := range strings.Split(turn, "\n") {
+// documentOf gives a text as the program reads it before others on standard input: a line --- ends it.
+func documentOf(text string) (string, error) {
+	for _, line := range strings.Split(text, "\n") {
 		if strings.TrimSuffix(line, "\r") == "---" {
-			return "", &Misused{"a line of the turn is ---, which would end it"}
+			return "", &Misused{"a line of the text is ---, which would end it"}
 		}
 	}
-	return turn + "\n---\n", nil
+	return text + "\n---\n", nil
 }
 
 func faultOf(line string) (*Fault, bool) {

@@ -9,7 +9,6 @@ import (
 	"encoding/json"
 	"errors"
 	"fmt"
-	"os"
 	"os/exec"
 	"strconv"
 	"strings"
@@ -173,17 +172,13 @@ func (failed *Failed) Error() string {
 	return fmt.Sprintf("ibcplan failed with status %d: %s", failed.Status, failed.Said)
 }
 
-// errorOf gives the error that an exit status and standard error tell.
-func errorOf(status int, said string) error {
+// errorOf gives the error that an exit status, the fault on standard output and standard error tell.
+func errorOf(status int, output, said string) error {
 	said = strings.TrimSpace(said)
-	if status == 1 {
-		if _, rest, found := strings.Cut("\n"+said, "\nfault "); found {
-			line, advice, _ := strings.Cut(rest, "\n")
-			words := strings.SplitN(line, " ", 4)
-			if number, err := strconv.ParseUint(words[0], 10, 64); err == nil && len(words) == 4 && words[2] == "at" {
-				return &Fault{number, words[1], words[3], strings.TrimSpace(advice)}
-			}
-		}
+	if fault, isFault := faultOf(output); status == 1 && isFault {
+		_, advice, _ := strings.Cut(said, fault.Error()+"\n")
+		fault.Advice = strings.TrimSpace(advice)
+		return fault
 	}
 	if status == 1 || status == 2 {
 		return &Misused{said}
@@ -191,10 +186,12 @@ func errorOf(status int, said string) error {
 	return &Failed{status, said}
 }
 
-// A Planner starts the program of this path, or of this name on the path; with Workers, 1 to 64, by so many threads.
+// A Planner starts the program of this path, or of this name on the path; with Workers, 1 to 64, by so many threads. With NoLabels
+// the answers of followers have no labels: where a chain has thousands of headers, they are most of an answer.
 type Planner struct {
-	Program string
-	Workers int
+	Program  string
+	Workers  int
+	NoLabels bool
 }
 
 func (planner Planner) withWorkers(words []string) []string {
@@ -221,7 +218,7 @@ func (planner Planner) run(input string, words ...string) (int, []byte, string, 
 func (planner Planner) written(input string, words ...string) ([]byte, error) {
 	status, output, said, err := planner.run(input, words...)
 	if err == nil && status != 0 {
-		err = errorOf(status, said)
+		err = errorOf(status, string(output), said)
 	}
 	return output, err
 }
@@ -240,10 +237,17 @@ func (planner Planner) Plan(script string) (*Report, error) {
 	if err := json.Unmarshal(output, &report); err != nil {
 		return nil, err
 	}
-	if report.Format != 1 && report.Format != 3 && report.Format != 4 {
-		return nil, &Misused{fmt.Sprintf("reports of format %d are newer than this package", report.Format)}
+	if err := checkFormat(report.Format); err != nil {
+		return nil, err
 	}
 	return &report, nil
+}
+
+func checkFormat(format uint64) error {
+	if format != 1 && format != 3 && format != 4 {
+		return &Misused{fmt.Sprintf("reports of format %d are newer than this package", format)}
+	}
+	return nil
 }
 
 // Explain gives the explanation of a script, as docs/FORMATS.md has it.
@@ -253,36 +257,30 @@ func (planner Planner) Explain(script string) (json.RawMessage, error) {
 
 // Certify gives the first reason against a certificate, as "601 SourceLabel 5"; none if its updates are the plan.
 func (planner Planner) Certify(script, certificate string) (string, error) {
-	path, err := fileWith(certificate)
+	document, err := documentOf(script)
 	if err != nil {
 		return "", err
 	}
-	defer os.Remove(path)
-	status, output, said, err := planner.run(script, "certify", "-", path)
+	status, output, said, err := planner.run(document+certificate, "certify", "--json", "-")
 	if err == nil && status != 0 && status != 3 {
-		err = errorOf(status, said)
+		err = errorOf(status, string(output), said)
 	}
 	if err != nil || status == 0 {
 		return "", err
 	}
-	return strings.TrimPrefix(strings.TrimSpace(string(output)), "no "), nil
+	var against struct {
+		Number uint64   `json:"number"`
+		Name   string   `json:"name"`
+		At     []uint64 `json:"at"`
+	}
+	if err := json.Unmarshal(output, &against); err != nil {
+		return "", err
+	}
+	return strings.TrimRight(fmt.Sprintf("%d %s %s", against.Number, against.Name, strings.Trim(fmt.Sprint(against.At), "[]")), " "), nil
 }
 
 // Version gives the name of the program and its version, as "ibcplan 0.1.0".
 func (planner Planner) Version() (string, error) {
 	output, err := planner.written("", "--version")
 	return strings.TrimSpace(string(output)), err
-}
-
-// fileWith makes a file with a text that the program doesn't read from standard input.
-func fileWith(text string) (string, error) {
-	file, err := os.CreateTemp("", "ibcplan-*.toml")
-	if err != nil {
-		return "", err
-	}
-	_, err = file.WriteString(text)
-	if closed := file.Close(); err == nil {
-		err = closed
-	}
-	return file.Name(), err
 }

@@ -76,7 +76,7 @@ func TestPlans(t *testing.T) {
 	if err != nil || report.Format != 1 || len(report.Turns) != 4 || !report.Clients[0].Live {
 		t.Error(report, err)
 	}
-	again, err := Planner{planner.Program, 3}.Plan(example(t, "two_clients.toml"))
+	again, err := Planner{Program: planner.Program, Workers: 3}.Plan(example(t, "two_clients.toml"))
 	if err != nil || !reflect.DeepEqual(report, again) {
 		t.Error(again, err)
 	}
@@ -110,7 +110,7 @@ func TestFaults(t *testing.T) {
 	wantFault(t, err, 1007, "chain[0].id")
 	_, err = planner.Follow("version = 9", "")
 	wantFault(t, err, 1005, "version")
-	_, err = Planner{planner.Program, 65}.Plan("version = 1")
+	_, err = Planner{Program: planner.Program, Workers: 65}.Plan("version = 1")
 	want[*Misused](t, err)
 	_, err = planner.Follow("version = 1", "/dev/null")
 	want[*Misused](t, err)
@@ -170,7 +170,7 @@ func TestFollow(t *testing.T) {
 	if settled := whole[0].Taken(); len(settled) != 2 || settled[0]["done"] != 2 || follower.Turns() != 4 {
 		t.Error(settled, follower.Turns())
 	}
-	if again := answers(t, follow(t, Planner{planner.Program, 2}, setup, "")); !reflect.DeepEqual(whole, again) {
+	if again := answers(t, follow(t, Planner{Program: planner.Program, Workers: 2}, setup, "")); !reflect.DeepEqual(whole, again) {
 		t.Error(again)
 	}
 	follower.Stop()
@@ -208,13 +208,26 @@ func TestJournals(t *testing.T) {
 	}
 }
 
-func TestLater(t *testing.T) {
-	planner(t)
-	follower := follow(t, Planner{Program: "../later.sh"}, example(t, "follow/setup.toml"), filepath.Join(t.TempDir(), "journal"))
-	answers(t, follower)
-	if turn, err := follower.Restart(); turn != nil || err != nil || follower.Turns() != 4 {
-		t.Error(turn, err, follower.Turns())
+func TestLabels(t *testing.T) {
+	planner, setup := planner(t), example(t, "follow/setup.toml")
+	whole := answers(t, follow(t, planner, setup, ""))
+	planner.NoLabels = true
+	bare := answers(t, follow(t, planner, setup, ""))
+	for turn := range whole {
+		for client := range whole[turn].Clients {
+			if found := &whole[turn].Clients[client]; found.Outcome == Plan {
+				found.Labels = []Label{}
+			}
+		}
 	}
+	if !reflect.DeepEqual(bare, whole) {
+		t.Error(bare)
+	}
+}
+
+func TestLater(t *testing.T) {
+	_, err := Planner{Program: "../later.sh"}.Follow(example(t, "follow/setup.toml"), "")
+	want[*Misused](t, err)
 }
 
 // A turn that the journal has isn't told again, though its answer was never read.

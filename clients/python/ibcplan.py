@@ -11,7 +11,6 @@ Scripts, setups and turns are TOML, or trees of data with the same keys. docs/FO
 import json
 import os
 import subprocess
-import tempfile
 import threading
 from collections.abc import Mapping, Sequence
 from typing import Literal, NotRequired, Self, TypedDict, Union, cast
@@ -119,6 +118,7 @@ class Settlement(TypedDict):
 
 
 class Turn(TypedDict):
+    turn: NotRequired[int]  # its number, of a follower's answer
     window_back: bool
     windows_back: NotRequired[list[str]]  # hosts, in version 4
     refused: list[RefusedEvent]
@@ -166,15 +166,18 @@ class Failed(Exception):
         self.status, self.said = status, said
 
 
-def error_of(status: int, said: str) -> Exception:
-    """The error that a status and standard error tell."""
-    if status == 1:
-        before, found, rest = f"\n{said}".partition("\nfault ")
-        line, _, advice = rest.partition("\n")
-        words = line.split(" ", 3)
-        if found and len(words) == 4 and words[0].isdigit() and words[2] == "at":
-            return Fault(int(words[0]), words[1], words[3], advice.strip())
+def error_of(status: int, output: str, said: str) -> Exception:
+    """The error that a status, the fault on standard output and standard error tell."""
+    if status == 1 and output.startswith('{"fault"'):
+        fault = fault_of(json.loads(output))
+        fault.advice = said.partition(f"{fault}\n")[2].strip()
+        return fault
     return Misused(said.strip()) if status in (1, 2) else Failed(status, said.strip())
+
+
+def fault_of(value: Mapping[str, object]) -> Fault:
+    """The fault of an object of JSON."""
+    return Fault(cast(int, value["fault"]), cast(str, value["name"]), cast(str, value["path"]))
 
 
 # ---- scripts
@@ -227,19 +230,16 @@ class Planner:
 
     def certify(self, script: Script, certificate: Script) -> str | None:
         """The first reason against a certificate, as `601 SourceLabel 5`; none if its updates are the plan."""
-        path = file_with(text_of(certificate))
-        try:
-            done = self.run(["certify", "-", path], text_of(script))
-        finally:
-            os.unlink(path)
+        done = self.run(["certify", "--json", "-"], document_of(text_of(script)) + text_of(certificate))
         if done.returncode not in (0, 3):
-            raise error_of(done.returncode, done.stderr)
-        return done.stdout.strip().removeprefix("no ") if done.returncode else None
+            raise error_of(done.returncode, done.stdout, done.stderr)
+        verdict = json.loads(done.stdout)
+        return " ".join(map(str, (verdict["number"], verdict["name"], *verdict["at"]))) if done.returncode else None
 
-    def follow(self, setup: Script, journal: str | None = None, workers: int = 0) -> "Follower":
+    def follow(self, setup: Script, journal: str | None = None, workers: int = 0, labels: bool = True) -> "Follower":
         """Starts a process that answers turns as they come, of a setup: a script without turns. With a journal each turn is on the disk before
-        its answer, and a journal that is there is gone on with."""
-        return Follower(self, text_of(setup), journal, workers)
+        its answer, and a journal that is there is gone on with. Without labels answers are shorter, where a chain has thousands of headers."""
+        return Follower(self, text_of(setup), journal, workers, labels)
 
     def version(self) -> str:
         """The name of the program and its version, as `ibcplan 0.1.0`."""
@@ -252,46 +252,38 @@ class Planner:
         """What a run writes that ends well."""
         done = self.run(words, given)
         if done.returncode:
-            raise error_of(done.returncode, done.stderr)
+            raise error_of(done.returncode, done.stdout, done.stderr)
         return done.stdout
-
-
-def file_with(text: str) -> str:
-    """The path of a new file with a text, for what the program doesn't read from standard input."""
-    with tempfile.NamedTemporaryFile("w", encoding="utf-8", prefix="ibcplan-", suffix=".toml", delete=False) as file:
-        file.write(text)
-    return file.name
 
 
 def report_of(text: str) -> Report:
     report = cast(Report, json.loads(text))
-    if report["ibcplan"] not in FORMATS:
-        raise Misused(f"reports of format {report['ibcplan']} are newer than this module")
+    check_format(report["ibcplan"])
     return report
 
 
-def document_of(turn: str) -> bytes:
-    """A turn as `follow` reads it."""
-    if "---" in (line.rstrip("\r") for line in turn.split("\n")):
-        raise Misused("a line of the turn is ---, which would end it")
-    return f"{turn}\n---\n".encode()
+def check_format(number: int) -> None:
+    if number not in FORMATS:
+        raise Misused(f"reports of format {number} are newer than this module")
+
+
+def document_of(text: str) -> str:
+    """A text as the program reads it before others on standard input: a line `---` ends it."""
+    if "---" in (line.rstrip("\r") for line in text.split("\n")):
+        raise Misused("a line of the text is ---, which would end it")
+    return f"{text}\n---\n"
 
 
 def answer_of(line: str) -> Turn | Fault:
     value = json.loads(line)
-    return Fault(value["fault"], value["name"], value["path"]) if "fault" in value else cast(Turn, value)
-
-
-def begins(line: str) -> bool:
-    """Whether a line tells what the program is, as later releases begin: it answers nothing."""
-    return line.startswith('{"ibcplan"')
+    return fault_of(value) if "fault" in value else cast(Turn, value)
 
 
 class Follower:
     """A process that answers turns as they come, for one thread at a time. `past` has the answers to the journal's turns."""
 
-    def __init__(self, planner: Planner, setup: str, journal: str | None, workers: int) -> None:
-        self.planner, self.setup, self.journal, self.workers = planner, setup, journal, workers
+    def __init__(self, planner: Planner, setup: str, journal: str | None, workers: int, labels: bool) -> None:
+        self.planner, self.setup, self.journal, self.workers, self.labels = planner, setup, journal, workers, labels
         lines = self.start()
         self.past = [cast(Turn, answer_of(line)) for line in lines]
         self.turns = len(lines)  # how many were answered, the journal's too
@@ -350,9 +342,10 @@ class Follower:
 
     def start(self) -> list[str]:
         """Starts the process; the answers to the journal's turns."""
-        path = file_with(self.setup)
-        words = [self.planner.program, "follow", "--json", path, *(["--journal", self.journal] if self.journal else [])]
+        words = [self.planner.program, "follow", "--json", "-", *(["--journal", self.journal] if self.journal else [])]
         words += ["--workers", str(self.workers)] if self.workers else []
+        words += [] if self.labels else ["--no-labels"]
+        setup = document_of(self.setup)
         try:
             self.process = subprocess.Popen(words, stdin=subprocess.PIPE, stdout=subprocess.PIPE, stderr=subprocess.PIPE)
             self.tail = bytearray()
@@ -360,27 +353,30 @@ class Follower:
             # somebody has to read standard error: the process waits where nobody does
             self.listener = threading.Thread(target=remember, args=(self.process.stderr.fileno(), self.tail), daemon=True)
             self.listener.start()
-            # an empty document is answered by a fault, which marks the end of the old answers
-            lines, line = [], self.exchange(document_of(""))
+            # first comes what the process is; an empty document is answered by a fault, which marks the end of the old answers
+            first = self.exchange(setup + document_of(""))
+            if "fault" in (greeting := json.loads(first)):
+                raise self.ended(first)  # of the setup
+            check_format(greeting["ibcplan"])
+            lines, line = [], self.line()
             while not isinstance(answer_of(line), Fault):
-                lines += [] if begins(line) else [line]
+                lines.append(line)
                 line = self.line()
         except BaseException:
             if hasattr(self, "process"):
                 self.close()
             raise
-        finally:
-            os.unlink(path)
         return lines
 
-    def exchange(self, document: bytes) -> str:
+    def exchange(self, document: str) -> str:
         """Writes a document, and reads a line."""
         assert self.process.stdin
+        given = document.encode()
         try:
-            self.process.stdin.write(document)
+            self.process.stdin.write(given)
             self.process.stdin.flush()
-        except (OSError, ValueError):  # the process has ended, or was closed
-            raise self.ended() from None
+        except (OSError, ValueError):  # the process has ended, or was closed; it said why, on standard output if the setup has a fault
+            raise self.ended(self.line()) from None
         return self.line()
 
     def line(self) -> str:
@@ -393,11 +389,11 @@ class Follower:
             raise self.ended()
         return line.decode()
 
-    def ended(self) -> Exception:
-        """Why the process ended."""
+    def ended(self, line: str = "") -> Exception:
+        """Why the process ended, of which this is the last line."""
         status = self.process.wait()
         self.listener.join()
-        return error_of(status, self.said())
+        return error_of(status, line, self.said())
 
 
 def remember(source: int, tail: bytearray) -> None:

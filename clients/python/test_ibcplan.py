@@ -134,7 +134,7 @@ class Runs(unittest.TestCase):
         follower = self.follow(SETUP, self.journal)
         size = os.path.getsize(self.journal)
         assert follower.process.stdin
-        follower.process.stdin.write(ibcplan.document_of(TURNS[0]))
+        follower.process.stdin.write(ibcplan.document_of(TURNS[0]).encode())
         follower.process.stdin.flush()
         while os.path.getsize(self.journal) == size:
             time.sleep(0.001)
@@ -156,10 +156,17 @@ class Runs(unittest.TestCase):
         self.assertEqual(pathlib.Path(self.journal).read_text().count("[[turn]]"), 801)
         self.assertEqual(len(self.follow("version = 3", self.journal).past), 801)
 
-    def test_what_later_releases_begin_with_is_passed(self) -> None:
-        self.planner = Planner(str(EXAMPLES.parent / "clients" / "later.sh"))
-        follower = self.follow(SETUP, self.journal)
-        self.assertEqual((len(self.answers(follower)), follower.restart(), follower.turns), (4, None, 4))
+    def test_labels_can_be_left_out(self) -> None:
+        whole, bare = self.answers(self.follow(SETUP)), self.answers(self.planner.follow(SETUP, labels=False))
+        for client in (client for turn in whole for client in turn["clients"]):
+            if client["outcome"] == "plan":
+                self.assertTrue(client["labels"])
+                client["labels"] = []
+        self.assertEqual(bare, whole)
+
+    def test_later_formats_are_refused(self) -> None:
+        with self.assertRaisesRegex(Misused, "format 5"):
+            Planner(str(EXAMPLES.parent / "clients" / "later.sh")).follow(SETUP)
 
 
 class FaultCheck:

@@ -1,4 +1,5 @@
 //! Why there is no answer.
+use crate::Json;
 use std::{fmt, io};
 
 /// A fault of a text: the same text fails again.
@@ -36,11 +37,14 @@ pub enum Error {
 }
 
 impl Error {
-    /// The error that an exit status and standard error tell.
-    pub(crate) fn of(status: Option<i32>, said: &str) -> Error {
+    /// The error that an exit status, the fault on standard output and standard error tell.
+    pub(crate) fn of(status: Option<i32>, output: &str, said: &str) -> Error {
         let said = said.trim_end();
         match status {
-            Some(1) => Fault::in_text(said).map_or_else(|| Error::Misused(said.to_owned()), Error::Fault),
+            Some(1) => match Json::read(output).and_then(|fault| Fault::of(&fault)) {
+                Ok(fault) => Error::Fault(fault.advised_by(said)),
+                Err(_) => Error::Misused(said.to_owned()),
+            },
             Some(2) => Error::Misused(said.to_owned()),
             _ => Error::Failed { status, said: said.to_owned() },
         }
@@ -53,18 +57,16 @@ impl Fault {
         self.path.strip_prefix("event[")?.split_once(']')?.0.parse().ok()
     }
 
-    /// The fault of the line `fault NUMBER NAME at PATH`, which the advice follows.
-    fn in_text(said: &str) -> Option<Fault> {
-        let begin = if said.starts_with("fault ") { 0 } else { said.find("\nfault ")? + 1 };
-        let (line, advice) = said[begin..].split_once('\n').unwrap_or((&said[begin..], ""));
-        let (number, rest) = line.strip_prefix("fault ")?.split_once(' ')?;
-        let (name, path) = rest.split_once(" at ")?;
-        Some(Fault {
-            number: number.parse().ok()?,
-            name: name.to_owned(),
-            path: path.to_owned(),
-            advice: advice.to_owned(),
-        })
+    /// The fault of an object of JSON.
+    pub(crate) fn of(value: &Json) -> Result<Fault, Error> {
+        let (number, name, path) = (value.number("fault")?, value.text("name")?, value.text("path")?);
+        Ok(Fault { number, name, path, advice: String::new() })
+    }
+
+    /// The fault with what standard error says behind its line.
+    fn advised_by(self, said: &str) -> Fault {
+        let advice = said.split_once(&format!("{self}\n")).map_or("", |(_, advice)| advice).to_owned();
+        Fault { advice, ..self }
     }
 }
 

@@ -1,5 +1,6 @@
 //! A process that answers turns as they come.
-use crate::planner::{Beside, text};
+use crate::planner::{document, text};
+use crate::report::format_of;
 use crate::{Error, Json, Planner, Turn};
 use std::fmt::Display;
 use std::io::{self, BufRead, BufReader, Read, Write};
@@ -94,16 +95,6 @@ impl Follower {
     }
 }
 
-/// A turn as `follow` reads it.
-fn document(turn: impl Display) -> Result<String, Error> {
-    let document = format!("{turn}\n---\n");
-    let ends = document.split('\n').filter(|line| line.strip_suffix('\r').unwrap_or(line) == "---").count();
-    if ends > 1 {
-        return Err(Error::Misused("a line of the turn is ---, which would end it".to_owned()));
-    }
-    Ok(document)
-}
-
 /// A process and its pipes.
 #[derive(Debug)]
 struct Run {
@@ -117,11 +108,14 @@ struct Run {
 impl Run {
     /// Starts the process; the answers to the journal's turns.
     fn new(planner: &Planner, setup: &str, journal: Option<&PathBuf>) -> Result<(Run, Vec<String>), Error> {
-        let beside = Beside::new(setup)?;
+        let setup = document(setup)?;
         let mut command = planner.command("follow");
-        planner.add_workers(&mut command).arg("--json").arg(&beside.0);
+        planner.add_workers(&mut command).args(["--json", "-"]);
         if let Some(journal) = journal {
             command.arg("--journal").arg(journal);
+        }
+        if !planner.has_labels {
+            command.arg("--no-labels");
         }
         let mut child = command.stdin(Stdio::piped()).stdout(Stdio::piped()).stderr(Stdio::piped()).spawn()?;
         let (turns, answers, from) = (child.stdin.take(), child.stdout.take(), child.stderr.take());
@@ -139,23 +133,25 @@ impl Run {
             said,
             listener: Some(listener),
         };
-        let past = run.begin()?;
+        let past = run.begin(&setup)?;
         Ok((run, past))
     }
 
-    /// The old answers: a fault, to an empty document, marks their end.
-    fn begin(&mut self) -> Result<Vec<String>, Error> {
-        let (mut past, mut line) = (Vec::new(), self.exchange(&document("")?)?);
+    /// Tells the setup; what the process begins with, and the old answers: a fault, to an empty document, marks their end.
+    fn begin(&mut self, setup: &str) -> Result<Vec<String>, Error> {
+        let first = self.exchange(&format!("{setup}{}", document("")?))?;
+        let greeting = Json::read(&first)?;
+        if greeting.get("fault").is_some() {
+            return Err(self.ended(&first)); // of the setup
+        }
+        format_of(&greeting)?;
+        let mut past = Vec::new();
         loop {
-            let value = Json::read(&line)?;
-            if value.get("fault").is_some() {
+            let line = self.line()?;
+            if Json::read(&line)?.get("fault").is_some() {
                 return Ok(past);
             }
-            // later releases begin with an object that tells what they are, which answers nothing
-            if value.get("ibcplan").is_none() {
-                past.push(line);
-            }
-            line = self.line()?;
+            past.push(line);
         }
     }
 
@@ -167,7 +163,11 @@ impl Run {
         };
         match written {
             Ok(()) => self.line(),
-            Err(_) => Err(self.ended()), // it said why
+            // it said why, on standard output if the setup has a fault
+            Err(_) => {
+                let line = self.line()?;
+                Err(self.ended(&line))
+            }
         }
     }
 
@@ -175,7 +175,7 @@ impl Run {
         let mut line = String::new();
         match self.answers.read_line(&mut line) {
             Ok(_) if line.ends_with('\n') => Ok(line),
-            Ok(_) => Err(self.ended()),
+            Ok(_) => Err(self.ended("")),
             Err(error) => {
                 self.end();
                 Err(Error::Io(error))
@@ -183,13 +183,13 @@ impl Run {
         }
     }
 
-    /// Why the process ended.
-    fn ended(&mut self) -> Error {
+    /// Why the process ended, of which this is the last line.
+    fn ended(&mut self, line: &str) -> Error {
         self.turns = None;
         let status = locked(&self.child).wait();
         self.join();
         match status {
-            Ok(status) => Error::of(status.code(), &text(&locked(&self.said))),
+            Ok(status) => Error::of(status.code(), line, &text(&locked(&self.said))),
             Err(error) => Error::Io(error),
         }
     }

@@ -2,16 +2,16 @@
 use crate::{Error, Follower, Json, Report};
 use std::fmt::Display;
 use std::io::Write;
-use std::path::{Path, PathBuf};
+use std::path::Path;
 use std::process::{Command, Output, Stdio};
-use std::sync::atomic::{AtomicU32, Ordering};
-use std::{env, ffi::OsString, fs::File, io, thread};
+use std::{ffi::OsString, io, thread};
 
 /// Starts the program for each call. Scripts are texts, or a [`Table`](crate::Table).
 #[derive(Clone, Debug)]
 pub struct Planner {
     pub(crate) program: OsString,
     pub(crate) workers: u8,
+    pub(crate) has_labels: bool,
 }
 
 /// A verdict on a certificate.
@@ -23,16 +23,33 @@ pub enum Verdict {
     No(String),
 }
 
+impl Verdict {
+    fn against(value: &Json) -> Result<Verdict, Error> {
+        let place = |place: &Json| match place {
+            Json::Number(place) => Ok(format!(" {place}")),
+            _ => Err(Error::Unreadable("a height or an index is no number".to_owned())),
+        };
+        let places = value.array("at", place)?.concat();
+        Ok(Verdict::No(format!("{} {}{places}", value.number("number")?, value.text("name")?)))
+    }
+}
+
 impl Planner {
     /// By the program of this path, or of this name on the path.
     pub fn new(program: impl Into<OsString>) -> Planner {
-        Planner { program: program.into(), workers: 0 }
+        Planner { program: program.into(), workers: 0, has_labels: true }
     }
 
     /// By so many threads, 1 to 64, or by one with 0. The answers stay the same.
     #[must_use]
     pub fn with_workers(self, workers: u8) -> Planner {
         Planner { workers, ..self }
+    }
+
+    /// With no labels in the answers of followers: where a chain has thousands of headers, they are most of an answer.
+    #[must_use]
+    pub fn without_labels(self) -> Planner {
+        Planner { has_labels: false, ..self }
     }
 
     /// The report of a script.
@@ -48,13 +65,12 @@ impl Planner {
 
     /// The verdict on a certificate for a script.
     pub fn certify(&self, script: impl Display, certificate: impl Display) -> Result<Verdict, Error> {
-        let beside = Beside::new(&certificate.to_string())?;
-        let output = run(self.command("certify").arg("-").arg(&beside.0), &script.to_string())?;
-        let line = text(&output.stdout);
+        let both = format!("{}{certificate}", document(script)?);
+        let output = run(self.command("certify").args(["--json", "-"]), &both)?;
         match output.status.code() {
             Some(0) => Ok(Verdict::Yes),
-            Some(3) => Ok(Verdict::No(line.trim_end().strip_prefix("no ").unwrap_or(&line).to_owned())),
-            status => Err(Error::of(status, &text(&output.stderr))),
+            Some(3) => Verdict::against(&Json::read(&text(&output.stdout))?),
+            status => Err(Error::of(status, &text(&output.stdout), &text(&output.stderr))),
         }
     }
 
@@ -89,7 +105,7 @@ fn written(command: &mut Command, input: &str) -> Result<String, Error> {
     if output.status.success() {
         Ok(text(&output.stdout))
     } else {
-        Err(Error::of(output.status.code(), &text(&output.stderr)))
+        Err(Error::of(output.status.code(), &text(&output.stdout), &text(&output.stderr)))
     }
 }
 
@@ -103,28 +119,16 @@ fn run(command: &mut Command, input: &str) -> io::Result<Output> {
     })
 }
 
+/// A text as the program reads it before others on standard input: a line `---` ends it.
+pub(crate) fn document(text: impl Display) -> Result<String, Error> {
+    let document = format!("{text}\n---\n");
+    let ends = document.split('\n').filter(|line| line.strip_suffix('\r').unwrap_or(line) == "---").count();
+    if ends > 1 {
+        return Err(Error::Misused("a line of the text is ---, which would end it".to_owned()));
+    }
+    Ok(document)
+}
+
 pub(crate) fn text(bytes: &[u8]) -> String {
     String::from_utf8_lossy(bytes).into_owned()
-}
-
-/// A file with a text that the program doesn't read from standard input. It goes when this goes.
-#[derive(Debug)]
-pub(crate) struct Beside(pub(crate) PathBuf);
-
-impl Beside {
-    pub(crate) fn new(text: &str) -> io::Result<Beside> {
-        static COUNT: AtomicU32 = AtomicU32::new(0);
-        let number = COUNT.fetch_add(1, Ordering::Relaxed);
-        let path = env::temp_dir().join(format!("ibcplan-{}-{number}.toml", std::process::id()));
-        let mut file = File::options().write(true).create_new(true).open(&path)?;
-        let beside = Beside(path);
-        file.write_all(text.as_bytes())?;
-        Ok(beside)
-    }
-}
-
-impl Drop for Beside {
-    fn drop(&mut self) {
-        let _ = std::fs::remove_file(&self.0);
-    }
 }

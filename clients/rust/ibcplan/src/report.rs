@@ -260,10 +260,7 @@ impl Turn {
 impl Report {
     pub(crate) fn read(text: &str) -> Result<Report, Error> {
         let value = Json::read(text)?;
-        let format = value.number("ibcplan")?;
-        if ![1, 3, 4].contains(&format) {
-            return Err(Error::Unreadable(format!("a report of format {format}")));
-        }
+        let format = format_of(&value)?;
         Ok(Report { format, turns: value.array("turns", Turn::of)?, clients: value.array("clients", Health::of)? })
     }
 }
@@ -287,13 +284,16 @@ impl Turn {
     pub(crate) fn answer(value: &Json) -> Result<Turn, Error> {
         match value.get("fault") {
             None => Turn::of(value),
-            Some(_) => Err(Error::Fault(Fault {
-                number: value.number("fault")?,
-                name: value.text("name")?,
-                path: value.text("path")?,
-                advice: String::new(),
-            })),
+            Some(_) => Err(Error::Fault(Fault::of(value)?)),
         }
+    }
+}
+
+/// The format of a report, or of the answers that a greeting comes before.
+pub(crate) fn format_of(value: &Json) -> Result<u64, Error> {
+    match value.number("ibcplan")? {
+        format @ (1 | 3 | 4) => Ok(format),
+        format => Err(Error::Unreadable(format!("a report of format {format}"))),
     }
 }
 

@@ -152,12 +152,26 @@ fn journals_are_gone_on_with() {
 }
 
 #[test]
-fn what_later_releases_begin_with_is_passed() {
-    let Some(_) = planner() else { return };
-    let (program, journal) = (Path::new(env!("CARGO_MANIFEST_DIR")).join("../../later.sh"), journal("of_later"));
-    let mut follower = Planner::new(program).follow(example("follow/setup.toml"), Some(&journal)).unwrap();
-    assert_eq!((answers(&mut follower).len(), follower.restart().unwrap(), follower.turns()), (4, None, 4));
-    fs::remove_file(journal).unwrap();
+fn later_formats_are_refused() {
+    let program = Path::new(env!("CARGO_MANIFEST_DIR")).join("../../later.sh");
+    let follower = Planner::new(program).follow(example("follow/setup.toml"), None);
+    assert!(matches!(follower, Err(Error::Unreadable(said)) if said.contains("format 5")));
+}
+
+#[test]
+fn labels_can_be_left_out() {
+    let Some(planner) = planner() else { return };
+    let follow = |planner: Planner| answers(&mut planner.follow(example("follow/setup.toml"), None).unwrap());
+    let (whole, bare) = (follow(planner.clone()), follow(planner.without_labels()));
+    let plans = |turns: &[Turn]| turns.iter().flat_map(|turn| turn.clients.clone()).collect::<Vec<_>>();
+    let unlabelled = plans(&whole).into_iter().map(|mut client| {
+        if let Outcome::Plan(plan) = &mut client.outcome {
+            assert!(!plan.labels.is_empty());
+            plan.labels.clear();
+        }
+        client
+    });
+    assert_eq!(unlabelled.collect::<Vec<_>>(), plans(&bare));
 }
 
 /// Turns of a script without chains, told while another thread kills the process again and again.
