@@ -1,13 +1,11 @@
 """Turns as they come: what `ibcplan follow` answers to each, whatever pieces its input comes in."""
 import contextlib
 import dataclasses
-import itertools
 import json
 import os
 import pathlib
 import select
 import shutil
-import signal
 import subprocess
 import time
 import tomllib
@@ -173,7 +171,7 @@ def scripts():
             yield row.name, row.read_text(), report
 
 
-def script_runs(program, folder, is_quick):
+def script_runs(program, folder):
     """Each script by `follow`: what `plan` writes, in pieces of several sizes and by several numbers of workers."""
     ways = [(size, workers) for size in (1, 7, 4096) for workers in (0, 1, 2, 8)]
     runs, wrong, greeting = 0, 0, greeting_of(program, 1)
@@ -184,7 +182,7 @@ def script_runs(program, folder, is_quick):
             continue
         path = folder / "setup.toml"
         path.write_bytes(setup)
-        chosen = ways if not is_quick and len(script) < 20_000 else [ways[number % len(ways)], ways[(number + 5) % len(ways)]]
+        chosen = ways if len(script) < 20_000 else [ways[number % len(ways)], ways[(number + 5) % len(ways)]]
         for size, workers in chosen:
             words = [*program, "follow", str(path), *(["--workers", str(workers)] if workers else [])]
             done = run_in_pieces(words, ended(documents), size)
@@ -421,10 +419,10 @@ def number_runs(program, folder):
     return 2 * len(runs) + 2, wrong
 
 
-def unlabelled_runs(program, folder, is_quick):
+def unlabelled_runs(program, folder):
     """Answers without labels: else they are the same, and so is the journal."""
     path, journals, runs, wrong = folder / "setup.toml", [folder / "labels.journal", folder / "no_labels.journal"], 0, 0
-    for name, script, report in itertools.islice(scripts(), 0, None, 7 if is_quick else 1):
+    for name, script, report in scripts():
         try:
             setup, documents = parts_of(script)
         except (tomllib.TOMLDecodeError, ValueError):
@@ -491,23 +489,19 @@ def client_runs(program, folder):
     return len(clients), wrong
 
 
-def follow_runs(program, folder, is_quick=False):
+FOLLOWS = script_runs, unlabelled_runs, live_runs, first_document_runs, number_runs, greeting_runs, quiet_runs, client_runs, end_runs, fault_runs, failure_runs
+
+
+def follow_runs(program, folder):
     """All runs of `follow`: how many there were, and how many weren't as they have to be."""
-    signal.signal(signal.SIGPIPE, signal.SIG_IGN)
-    runs = wrong = 0
-    for case in (live_runs, first_document_runs, number_runs, greeting_runs, quiet_runs, client_runs, end_runs, fault_runs, failure_runs):
-        more, bad = case(program, folder)
-        runs, wrong = runs + more, wrong + bad
-    for case in (script_runs, unlabelled_runs):
-        more, bad = case(program, folder, is_quick)
-        runs, wrong = runs + more, wrong + bad
-    return runs, wrong
+    counts = [case(program, folder) for case in FOLLOWS]
+    return sum(runs for runs, _ in counts), sum(wrong for _, wrong in counts)
 
 
 if __name__ == "__main__":
     import sys
     import tempfile
     with tempfile.TemporaryDirectory() as made:
-        count, missed = follow_runs(sys.argv[1:] or [str(TOP / "crates" / "ibcplan" / "out" / "ibcplan")], pathlib.Path(made), True)
+        count, missed = follow_runs(sys.argv[1:] or [str(TOP / "crates" / "ibcplan" / "out" / "ibcplan")], pathlib.Path(made))
     print(f"{count} runs, {missed} wrong")
     sys.exit(missed > 0)

@@ -3,7 +3,6 @@ speak of what was forgotten are refused."""
 import datetime
 import os
 import pathlib
-import signal
 import subprocess
 import sys
 import threading
@@ -537,14 +536,13 @@ def entry_runs(program, folder):
     return 2, wrong
 
 
+FORGETS = height_runs, needed_runs, window_runs, store_runs, packet_runs, front_runs, entry_runs, journal_runs
+
+
 def forget_runs(program, folder):
     """All runs of what is forgotten: how many there were, and how many weren't as they have to be."""
-    signal.signal(signal.SIGPIPE, signal.SIG_IGN)
-    runs = wrong = 0
-    for case in (height_runs, needed_runs, window_runs, store_runs, packet_runs, front_runs, entry_runs, journal_runs):
-        more, bad = case(program, folder)
-        runs, wrong = runs + more, wrong + bad
-    return runs, wrong
+    counts = [case(program, folder) for case in FORGETS]
+    return sum(runs for runs, _ in counts), sum(wrong for _, wrong in counts)
 
 
 if __name__ == "__main__":

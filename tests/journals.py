@@ -366,14 +366,13 @@ def client_runs(program, folder):
     return 3, wrong + check("the client's journal", journals[1], journals[0])
 
 
+JOURNALS = refusal_runs, long_runs, gone_runs, full_runs, whole_runs, cut_runs, flip_runs, plain_runs, kill_runs, write_runs, client_runs
+
+
 def journal_runs(program, folder):
     """All runs with a journal: how many there were, and how many weren't as they have to be."""
-    signal.signal(signal.SIGPIPE, signal.SIG_IGN)
-    runs = wrong = 0
-    for case in refusal_runs, long_runs, gone_runs, full_runs, whole_runs, cut_runs, flip_runs, plain_runs, kill_runs, write_runs, client_runs:
-        more, bad = case(program, folder)
-        runs, wrong = runs + more, wrong + bad
-    return runs, wrong
+    counts = [case(program, folder) for case in JOURNALS]
+    return sum(runs for runs, _ in counts), sum(wrong for _, wrong in counts)
 
 
 if __name__ == "__main__":
