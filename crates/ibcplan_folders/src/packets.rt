@@ -6,11 +6,11 @@ use rb_base::ChainId;
 use rb_import_answers::revision_of;
 use rb_import_setup::Sender;
 use rb_messages::id_of;
-use rb_packet_facts::RevisionHeight;
 use rb_packet_messages::{
     DueMessage, Ends, PacketError, PacketFacts, PathAnswer, ProofRequest, ends_of, facts_of,
     message_text, read_path_answer, request_of,
 };
+use rb_packets::RevisionHeight;
 use rb_plan_client::Message;
 use rb_scan::{Kind, Order};
 use rb_script_types::{Config, PathConfig};

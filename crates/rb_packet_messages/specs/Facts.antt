@@ -7,12 +7,13 @@ use Rattle.rb_import_answers.specs.Packets.{Packet, packet_view}
 use Rattle.rb_import_answers.specs.declared.packets.PacketEvent.{PacketEvent}
 use Rattle.rb_import_answers.specs.declared.packets.PacketKind.{PacketKind}
 use Rattle.rb_import_answers.specs.declared.packets.PacketKind.TheVariants as kinds
-use Rattle.rb_packet_events.specs.declared.event.PacketBytes.TheVariants as asked
-use Rattle.rb_packet_events.specs.Events.{Way}
-use Rattle.rb_packet_events.specs.Steps.{◌>>=◌, first_of}
+use Rattle.rb_packets.specs.declared.event.PacketBytes.TheVariants as asked
+use Rattle.rb_packets.specs.Events.{Way}
+use Rattle.rb_packets.specs.Json.{json}
+use Rattle.rb_packets.specs.Steps.{◌>>=◌, first_of}
 use Rattle.rb_import_json.specs.declared.error.FieldError.{FieldError}
-use Rattle.rb_packet_events.specs.Transactions.{bytes_in, json, transactions_view}
-use Rattle.rb_packet_facts.specs.declared.packet.RevisionHeight.{RevisionHeight}
+use Rattle.rb_packets.specs.Transactions.{bytes_in, transactions_view}
+use Rattle.rb_packets.specs.declared.packet.RevisionHeight.{RevisionHeight}
 use Rattle.rb_scan.specs.declared.message.Kind.{Kind}
 use Rattle.rb_scan.specs.declared.message.Kind.TheVariants.{Receive, Acknowledge, Timeout}
 use Rattle.rb_script_types.specs.Channels.{end_text}

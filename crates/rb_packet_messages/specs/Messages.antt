@@ -1,15 +1,15 @@
 -- Packet messages that are due (ICS 4), what a node is asked for each, and its text by an answer that proves it (ICS 23).
 use Rattle.std.specs.Prelude.{◌≡◌, ℕ, true, List, Some, Result, Ok, Err}
-use Rattle.rb_packet_facts.specs.Answers.{StoreAnswer, store_answer}
-use Rattle.rb_packet_facts.specs.Packets.{Packet}
-use Rattle.rb_packet_facts.specs.declared.packet.RevisionHeight.{RevisionHeight}
-use Rattle.rb_packet_proofs.specs.Asking.{file_name, query_of}
-use Rattle.rb_packet_proofs.specs.Claims.{Claim, acknowledged, awaited, sent, unreceived}
-use Rattle.rb_packet_proofs.specs.Judging.{Proven, judged, proven_by}
-use Rattle.rb_packet_proofs.specs.Proving.{proves}
-use Rattle.rb_packet_proofs.specs.declared.judging.ProofError.{ProofError}
-use Rattle.rb_packet_proofs.specs.declared.judging.ProofError.TheVariants as proofs
-use Rattle.rb_packet_text.specs.MessageTexts.{Action, Message, acknowledge, packet_message_text, receive, time_out}
+use Rattle.rb_packets.specs.Answers.{StoreAnswer, store_answer}
+use Rattle.rb_packets.specs.Packets.{Packet}
+use Rattle.rb_packets.specs.declared.packet.RevisionHeight.{RevisionHeight}
+use Rattle.rb_packets.specs.Asking.{file_name, query_of}
+use Rattle.rb_packets.specs.Claims.{Claim, acknowledged, awaited, sent, unreceived}
+use Rattle.rb_packets.specs.Judging.{Proven, judged, proven_by}
+use Rattle.rb_packets.specs.Proving.{proves}
+use Rattle.rb_packets.specs.declared.judging.ProofError.{ProofError}
+use Rattle.rb_packets.specs.declared.judging.ProofError.TheVariants as proofs
+use Rattle.rb_packets.specs.MessageTexts.{Action, Message, acknowledge, packet_message_text, receive, time_out}
 use Rattle.rb_scan.specs.declared.message.Kind.{Kind}
 use Rattle.rb_scan.specs.declared.message.Kind.TheVariants.{Receive, Acknowledge, Timeout}
 use Rattle.rb_scan.specs.declared.path.Order.{Order}

@@ -1,13 +1,12 @@
 //! A packet message that is due, and what a node is asked for it.
 ghost use Rattle.std.specs.Prelude.{◌≡◌, IfOk, string_bytes};
-ghost use Rattle.rb_packet_facts.specs.Packets.{packet_view};
-ghost use Rattle.rb_packet_proofs.specs.Claims.{claim_view};
+ghost use Rattle.rb_packets.specs.Packets.{packet_view};
+ghost use Rattle.rb_packets.specs.Claims.{claim_view};
 ghost use Rattle.rb_packet_messages.specs.Messages.{asked_of, claim_of, due_view, file_of, packet_of};
 
 use crate::ends::Ends;
 use crate::facts::PacketFacts;
-use rb_packet_facts::{Packet, RevisionHeight};
-use rb_packet_proofs::{Claim, file_name, query_of};
+use rb_packets::{Claim, Packet, RevisionHeight, file_name, query_of};
 use rb_scan::{Kind, Order};
 use std::alloc::{AllocError, Global};
 

@@ -1,5 +1,5 @@
 //! Why a packet message isn't made.
-use rb_packet_proofs::ProofError;
+use rb_packets::ProofError;
 use std::alloc::{AllocError, AllocFailed};
 use std::fmt;
 

@@ -1,14 +1,13 @@
 //! The text of a packet message, by the answer that proves it.
 ghost use Rattle.std.specs.Prelude.{◌≡◌, ◌⊎◌, Ok, Err, IfOk, IfErr, string_bytes};
-ghost use Rattle.rb_packet_proofs.specs.Claims.{claim_view};
-ghost use Rattle.rb_packet_text.specs.MessageTexts.{action_view};
+ghost use Rattle.rb_packets.specs.Claims.{claim_view};
+ghost use Rattle.rb_packets.specs.MessageTexts.{action_view};
 ghost use Rattle.rb_packet_messages.specs.Messages.{IsProven, action_of, due_view, message_of};
 ghost use Rattle.rb_packet_messages.specs.declared.error.PacketError.TheVariants.{NoMemory};
 
 use crate::due::{DueMessage, claim_of, packet_of};
 use crate::error::PacketError;
-use rb_packet_proofs::{Claim, judge};
-use rb_packet_text::{Action, PacketMessage, packet_message_text};
+use rb_packets::{Action, Claim, PacketMessage, judge, packet_message_text};
 use std::alloc::Global;
 
 /// The text of a message that is due and that an account signs, by an answer, which has to prove it.

@@ -2,9 +2,10 @@
 //! a node answered.
 use crate::words::Words;
 use anyhow::bail;
-use rb_packet_facts::{Packet, RevisionHeight};
-use rb_packet_proofs::{Claim, Proven, judge, key_of};
-use rb_packet_text::{Action, PacketMessage, packet_message_text};
+use rb_packets::{
+    Action, Claim, Packet, PacketMessage, Proven, RevisionHeight, judge, key_of,
+    packet_message_text,
+};
 use std::alloc::Global;
 
 /// What comes of a case.

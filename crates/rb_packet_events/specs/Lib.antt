@@ -1,4 +1,0 @@
-pub mod Attributes
-pub mod Events
-pub mod Steps
-pub mod Transactions

@@ -1,5 +1,0 @@
-use Rattle.std.proofs.Common.{append_assoc}
-use Rattle.rb_packet_facts.proofs.stored.hash_timeouts.Goals as goal
-
-pub returns : goal.returns
-returns g c = λ m h. rw append_assoc at (c.hash_height.ensures _ (c.hash_number.ensures m h))

@@ -1,4 +1,0 @@
-pub mod Asking
-pub mod Claims
-pub mod Judging
-pub mod Proving

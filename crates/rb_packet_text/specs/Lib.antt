@@ -1,3 +1,0 @@
-pub mod MessageTexts
-pub mod PacketTexts
-pub mod Values

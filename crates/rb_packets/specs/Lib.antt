@@ -1,0 +1,14 @@
+pub mod Answers
+pub mod Asking
+pub mod Attributes
+pub mod Claims
+pub mod Events
+pub mod Json
+pub mod Judging
+pub mod MessageTexts
+pub mod PacketTexts
+pub mod Packets
+pub mod Proving
+pub mod Steps
+pub mod Transactions
+pub mod Values

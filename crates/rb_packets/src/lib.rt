@@ -1,0 +1,26 @@
+//! Packets (ICS 4): what chains store of them, what transactions tell of them, which answers of nodes prove the claim of a
+//! packet message (ICS 23), and the text of such a message.
+#![tactic(auto)]
+
+mod answer;
+mod asking;
+mod attribute;
+mod claim;
+mod event;
+mod json;
+mod judging;
+mod message;
+mod packet;
+mod packet_text;
+mod proving;
+mod stored;
+mod transactions;
+mod values;
+
+pub use asking::{file_name, query_of};
+pub use claim::{Claim, key_of};
+pub use event::{PacketBytes, PacketWay};
+pub use judging::{ProofError, Proven, judge};
+pub use message::{Action, PacketMessage, packet_message_text};
+pub use packet::{Packet, RevisionHeight};
+pub use transactions::{Transactions, read_transactions};
