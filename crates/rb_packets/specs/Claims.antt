@@ -1,6 +1,6 @@
 -- What packet messages claim (ICS 4, `recvPacket`, `acknowledgePacket`, `timeoutPacket`), and of which key (ICS 24).
 use Rattle.std.specs.Prelude.{ℕ, List}
-use Rattle.rb_ics23_read.specs.Paths.{acknowledgement_path, commitment_path, next_sequence_path, receipt_path}
+use Rattle.rb_ics23.specs.Paths.{acknowledgement_path, commitment_path, next_sequence_path, receipt_path}
 use Rattle.rb_packets.specs.Packets.{Packet}
 use Rattle.rb_packets.specs.declared.claim.Claim.{Claim as CodeClaim}
 use Rattle.rb_packets.specs.declared.claim.Claim.TheVariants as claims

@@ -1,6 +1,6 @@
 -- What a message has of a node's answer, or why the answer isn't taken.
 use Rattle.std.specs.Prelude.{◌≡◌, ⊤, ℕ, List, if◌then◌else◌, Option, Some, None, unwrap_or, Result, Ok, Err}
-use Rattle.rb_ics23_read.specs.Merkle.{merkle_proof}
+use Rattle.rb_ics23.specs.Merkle.{merkle_proof}
 use Rattle.rb_packets.specs.Answers.{StoreAnswer, store_answer}
 use Rattle.rb_packets.specs.Packets.{Packet, next_sequence_in}
 use Rattle.rb_packets.specs.declared.judging.ProofError.{ProofError}

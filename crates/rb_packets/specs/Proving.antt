@@ -1,7 +1,7 @@
 -- Which answers prove what a packet message claims (ICS 4; ibc-go, `RecvPacket`, `AcknowledgePacket`, `TimeoutPacket`): by the app hash of the
 -- consensus state at the proof height, with values that are computed from the packet.
 use Rattle.std.specs.Prelude.{ℕ, List, codes, nat_le, Bool, false, ◌&&◌, Option, Some, None}
-use Rattle.rb_ics23_read.specs.Shown.{shows_absent, shows_member}
+use Rattle.rb_ics23.specs.Shown.{shows_absent, shows_member}
 use Rattle.rb_packets.specs.Answers.{StoreAnswer}
 use Rattle.rb_packets.specs.Packets.{Packet, acknowledgement_commitment, next_sequence_in, packet_commitment}
 use Rattle.rb_packets.specs.Claims.{Claim, acknowledged, awaited, key_of, sent, unreceived}

@@ -4,7 +4,7 @@ ghost use Rattle.rb_packets.specs.Packets.{packet_view};
 ghost use Rattle.rb_packets.specs.Claims.{claim_view, key_of};
 
 use crate::packet::Packet;
-use rb_ics23_read::{acknowledgement_path, commitment_path, next_sequence_path, receipt_path};
+use rb_ics23::{acknowledgement_path, commitment_path, next_sequence_path, receipt_path};
 use std::alloc::{AllocError, Global};
 
 /// What a message claims of a packet (ICS 4).

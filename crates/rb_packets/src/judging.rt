@@ -10,7 +10,7 @@ use crate::claim::Claim;
 use crate::packet::Packet;
 use crate::proving::proves;
 use crate::stored::next_sequence_in;
-use rb_ics23_read::{MerkleProof, merkle_proof};
+use rb_ics23::{MerkleProof, merkle_proof};
 use std::alloc::{AllocError, AllocFailed, Global};
 use std::fmt;
 

@@ -9,8 +9,7 @@ use crate::answer::StoreAnswer;
 use crate::claim::{Claim, key_of};
 use crate::packet::Packet;
 use crate::stored::{acknowledgement_commitment, next_sequence_in, packet_commitment};
-use rb_ics23::MerklePath;
-use rb_ics23_read::{MerkleProof, shows_absent, shows_member};
+use rb_ics23::{MerklePath, MerkleProof, shows_absent, shows_member};
 use std::alloc::{AllocError, Global};
 
 /// The name of the store of IBC (ICS 24; ibc-go).

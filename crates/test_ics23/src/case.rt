@@ -1,10 +1,10 @@
 //! A case is a word for what is asked, and what it is asked of: bytes in hex, texts as they are, a space between two.
 
 use anyhow::bail;
-use rb_ics23::{ExistenceProof, HashOp, LeafOp, LengthOp, MerklePath, root_of};
-use rb_ics23_read::{
-    MerkleProof, acknowledgement_path, commitment_path, merkle_proof, next_sequence_path,
-    receipt_path, shows_absent, shows_member,
+use rb_ics23::{
+    ExistenceProof, HashOp, LeafOp, LengthOp, MerklePath, MerkleProof, acknowledgement_path,
+    commitment_path, merkle_proof, next_sequence_path, receipt_path, root_of, shows_absent,
+    shows_member,
 };
 use std::alloc::Global;
 use std::str::Split;

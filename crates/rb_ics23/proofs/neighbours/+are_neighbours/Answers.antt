@@ -1,4 +1,4 @@
-use Rattle.rb_ics23.proofs.Paths.{none_left, none_right, by_same, by_parting}
+use Rattle.rb_ics23.proofs.LastSteps.{none_left, none_right, by_same, by_parting}
 use Rattle.rb_ics23.proofs.neighbours.+are_neighbours.Goals as goal
 
 pub returns-in_default : goal.returns-in_default

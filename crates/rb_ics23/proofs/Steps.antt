@@ -4,8 +4,8 @@ use Rattle.std.proofs.lemmas.Bool.{eqb-true}
 use Rattle.std.proofs.lemmas.List.{map-append, append-nil}
 use Rattle.rb_ics23.specs.Proof.{Inner, inner_view}
 use Rattle.rb_ics23.specs.declared.proof.InnerOp.{InnerOp as CodeInner}
-use Rattle.rb_ics23_read.specs.Ops.{◌>>=◌}
-use Rattle.rb_ics23_read.specs.Read.{step_at, path_in}
+use Rattle.rb_ics23.specs.Ops.{◌>>=◌}
+use Rattle.rb_ics23.specs.Read.{step_at, path_in}
 
 -- the steps so far, and those that are left
 abbrev pub Done : List Inner → ℕ → List ℕ → Option (List Inner) → Type 0

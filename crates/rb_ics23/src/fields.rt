@@ -1,8 +1,8 @@
 //! Fields of protocol buffers, in the order of their tags; one that is empty is left out.
 ghost use Rattle.std.specs.Prelude.{◌≡◌, option_map};
-ghost use Rattle.rb_ics23_read.specs.Fields.{part, field, number};
+ghost use Rattle.rb_ics23.specs.Fields.{part, field, number};
 
-use rb_ics23::varint_at;
+use crate::varint::varint_at;
 
 /// The bytes of a field, or none where another stands here, and what is behind it.
 #[tactic(auto, unfolding(crate::specs::Fields::field))]

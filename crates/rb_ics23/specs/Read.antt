@@ -1,10 +1,10 @@
 -- Proofs from their bytes (ICS 23, `proofs.proto`).
 use Rattle.std.specs.Prelude.{ℕ, zero, suc, ◌==◌, if◌then◌else◌, List, [], ◌∷◌, length, map, Option, Some, None, option_map}
 use Rattle.rb_ics23.specs.Proof.{Inner, Existence, NonExistence, leaf_view, inner_view}
-use Rattle.rb_ics23_read.specs.declared.read.Existence.{Existence as ReadExistence}
-use Rattle.rb_ics23_read.specs.declared.read.NonExistence.{NonExistence as ReadNonExistence}
-use Rattle.rb_ics23_read.specs.Fields.{field}
-use Rattle.rb_ics23_read.specs.Ops.{◌>>=◌, ends, leaf_in, inner_in}
+use Rattle.rb_ics23.specs.declared.read.Existence.{Existence as ReadExistence}
+use Rattle.rb_ics23.specs.declared.read.NonExistence.{NonExistence as ReadNonExistence}
+use Rattle.rb_ics23.specs.Fields.{field}
+use Rattle.rb_ics23.specs.Ops.{◌>>=◌, ends, leaf_in, inner_in}
 
 abbrev pub existence_of : ReadExistence → Existence
 existence_of p = record { key = p.key.now; value = p.value.now; leaf = leaf_view p.leaf; path = map inner_view p.path.items }

@@ -8,10 +8,10 @@ use Rattle.rb_ics23.specs.declared.proof.LengthOp.TheVariants.{VarProto}
 use Rattle.rb_ics23.specs.Varint.{varint, varint_at}
 use Rattle.rb_ics23.proofs.Varints.{varint_at-varint}
 use Rattle.rb_ics23.specs.Proof.{Inner, Existence, NonExistence}
-use Rattle.rb_ics23_read.specs.Fields.{part, field, number}
-use Rattle.rb_ics23_read.specs.Ops.{◌>>=◌, leaf_in, inner_in}
-use Rattle.rb_ics23_read.specs.Read.{step_in, step_at, path_in, existence_in, side_in, sides_in, existence, non_existence}
-use Rattle.rb_ics23_read.specs.Written.{field_text, leaf_text, inner_text, path_text, existence_text, side_text, absence_text, IsShort, AreShort, IsPlain, IsPlainSide, IsReadAgain, IsAbsenceReadAgain}
+use Rattle.rb_ics23.specs.Fields.{part, field, number}
+use Rattle.rb_ics23.specs.Ops.{◌>>=◌, leaf_in, inner_in}
+use Rattle.rb_ics23.specs.Read.{step_in, step_at, path_in, existence_in, side_in, sides_in, existence, non_existence}
+use Rattle.rb_ics23.specs.Written.{field_text, leaf_text, inner_text, path_text, existence_text, side_text, absence_text, IsShort, AreShort, IsPlain, IsPlainSide, IsExistenceReadAgain, IsAbsenceReadAgain}
 
 part-written : (bytes rest : List ℕ) → 0 < length bytes → length bytes < 2 ^ 64 → part (varint (length bytes) ++ (bytes ++ rest)) ≡ Some (bytes, rest)
 unfolding part
@@ -128,7 +128,7 @@ existence_in-written p plain =
     (rw (path-written 128 p.path plain.path plain.steps)
     (ap (λ l. Some (record { key = p.key; value = p.value; leaf = l; path = p.path })) (sym plain.leaf))))))
 
-pub existence-written : IsReadAgain
+pub existence-written : IsExistenceReadAgain
 unfolding existence
 existence-written p plain = rw (field-last 10 (existence_text p) refl plain.whole) (existence_in-written p plain)
 

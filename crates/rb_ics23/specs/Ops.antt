@@ -5,7 +5,7 @@ use Rattle.rb_ics23.specs.declared.proof.HashOp.TheVariants.{NoHash, Sha256, Oth
 use Rattle.rb_ics23.specs.declared.proof.LengthOp.{LengthOp}
 use Rattle.rb_ics23.specs.declared.proof.LengthOp.TheVariants.{NoPrefix, VarProto, Other as OtherLength}
 use Rattle.rb_ics23.specs.Proof.{Leaf, Inner}
-use Rattle.rb_ics23_read.specs.Fields.{field, number}
+use Rattle.rb_ics23.specs.Fields.{field, number}
 
 infixl 10 ◌>>=◌
 abbrev pub ◌>>=◌ : {A B : Type 0} → Option A → (A → Option B) → Option B

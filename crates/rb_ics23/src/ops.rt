@@ -1,10 +1,10 @@
 //! The operations of a proof.
 ghost use Rattle.std.specs.Prelude.{◌≡◌, option_map};
 ghost use Rattle.rb_ics23.specs.Proof.{leaf_view, inner_view};
-ghost use Rattle.rb_ics23_read.specs.Ops.{hash_op, length_op, leaf_in, inner_in};
+ghost use Rattle.rb_ics23.specs.Ops.{hash_op, length_op, leaf_in, inner_in};
 
 use crate::fields::{field, number};
-use rb_ics23::{HashOp, InnerOp, LeafOp, LengthOp};
+use crate::proof::{HashOp, InnerOp, LeafOp, LengthOp};
 
 fn hash_op(number: u64) -> HashOp
     ensures { result ≡ hash_op number }

@@ -1,6 +1,6 @@
 //! The paths of packets, which are the keys of the store `ibc`.
 ghost use Rattle.std.specs.Prelude.{◌≡◌, IfOk, string_bytes};
-ghost use Rattle.rb_ics23_read.specs.Paths.{commitment_path, acknowledgement_path, receipt_path, next_sequence_path};
+ghost use Rattle.rb_ics23.specs.Paths.{commitment_path, acknowledgement_path, receipt_path, next_sequence_path};
 
 use std::alloc::{AllocError, Global};
 

@@ -1,7 +1,7 @@
 //! The proof of a message.
 ghost use Rattle.std.specs.Prelude.{◌≡◌, ◌++◌, ◌<◌, ◌^◌, OnOk, IfOk};
 ghost use Rattle.rb_ics23.specs.Varint.{varint};
-ghost use Rattle.rb_ics23_read.specs.Merkle.{proof_field, merkle_proof};
+ghost use Rattle.rb_ics23.specs.Merkle.{proof_field, merkle_proof};
 
 use std::alloc::{AllocError, Global};
 

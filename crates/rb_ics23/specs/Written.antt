@@ -4,7 +4,7 @@ use Rattle.rb_ics23.specs.declared.proof.HashOp.TheVariants.{NoHash, Sha256}
 use Rattle.rb_ics23.specs.declared.proof.LengthOp.TheVariants.{VarProto}
 use Rattle.rb_ics23.specs.Proof.{Inner, Existence, NonExistence}
 use Rattle.rb_ics23.specs.Varint.{varint}
-use Rattle.rb_ics23_read.specs.Read.{existence, non_existence}
+use Rattle.rb_ics23.specs.Read.{existence, non_existence}
 
 unfoldable pub field_text : ℕ → List ℕ → List ℕ
 field_text tag [] = []
@@ -45,8 +45,8 @@ pub record IsPlain (p : Existence) : Type 0 where
   pub steps : length p.path ≤ 128
   pub whole : IsShort (existence_text p)
 
-abbrev pub IsReadAgain : Type 0
-IsReadAgain = (p : Existence) → IsPlain p → existence (field_text 0x0a (existence_text p)) ≡ Some p
+abbrev pub IsExistenceReadAgain : Type 0
+IsExistenceReadAgain = (p : Existence) → IsPlain p → existence (field_text 0x0a (existence_text p)) ≡ Some p
 
 abbrev pub side_text : Option Existence → List ℕ
 side_text None = []

@@ -1,7 +1,7 @@
 use Rattle.std.proofs.Common.{◌-◌, ◌+◌, ◌∙◌, sym, arith, map}
 use Rattle.rb_ics23.specs.Proof.{inner_view}
-use Rattle.rb_ics23_read.proofs.Steps.{at_end, too_many, no_step, one_more, pushed}
-use Rattle.rb_ics23_read.proofs.read.path_in.Goals as goal
+use Rattle.rb_ics23.proofs.Steps.{at_end, too_many, no_step, one_more, pushed}
+use Rattle.rb_ics23.proofs.read.path_in.Goals as goal
 
 pub returns-then-is_empty : goal.returns-then-is_empty
 returns-then-is_empty c =

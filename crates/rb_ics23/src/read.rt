@@ -1,11 +1,12 @@
 //! Proofs from their bytes.
 ghost use Rattle.std.specs.Prelude.{◌≡◌, IfOk, map, option_map};
 ghost use Rattle.rb_ics23.specs.Proof.{existence_view, inner_view, non_existence_view};
-ghost use Rattle.rb_ics23_read.specs.Read.{existence_of, non_existence_of, step_at, path_in, existence_in, side_in, sides_in, existence, non_existence};
+ghost use Rattle.rb_ics23.specs.Read.{existence_of, non_existence_of, step_at, path_in, existence_in, side_in, sides_in, existence, non_existence};
 
 use crate::fields::field;
+use crate::fit::MOST_STEPS;
 use crate::ops::{inner_in, leaf_in};
-use rb_ics23::{ExistenceProof, InnerOp, LeafOp, MOST_STEPS, NonExistenceProof};
+use crate::proof::{ExistenceProof, InnerOp, LeafOp, NonExistenceProof};
 use std::alloc::{AllocError, Global};
 
 /// A proof that a key has a value, as it was read.

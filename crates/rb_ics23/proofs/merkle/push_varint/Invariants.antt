@@ -1,6 +1,6 @@
 use Rattle.std.proofs.Common.{◌≡◌, ◌++◌}
 use Rattle.rb_ics23.specs.Varint.{varint}
-use Rattle.rb_ics23_read.proofs.merkle.push_varint.Given as goal
+use Rattle.rb_ics23.proofs.merkle.push_varint.Given as goal
 
 abbrev pub invariant-loop-rest : goal.invariant-loop-rest
 invariant-loop-rest l = l.out.items ++ varint l.rest ≡ l.initial.out.items ++ varint l.number

@@ -1,7 +1,7 @@
 use Rattle.std.proofs.Common.{arith, refl, rules}
 use Rattle.rb_ics23.proofs.Varints.{varint-last}
-use Rattle.rb_ics23_read.proofs.Digits.{written}
-use Rattle.rb_ics23_read.proofs.merkle.push_varint.Goals as goal
+use Rattle.rb_ics23.proofs.Digits.{written}
+use Rattle.rb_ics23.proofs.merkle.push_varint.Goals as goal
 
 pub loop-rest-preserved : goal.loop-rest-preserved
 loop-rest-preserved c =

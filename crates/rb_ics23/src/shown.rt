@@ -1,10 +1,11 @@
 //! What the bytes of two proofs show: that of a key in its store, and that of the store.
 ghost use Rattle.std.specs.Prelude.{◌≡◌, IfOk};
-ghost use Rattle.rb_ics23_read.specs.Shown.{shows_member, shows_absent};
+ghost use Rattle.rb_ics23.specs.Shown.{shows_member, shows_absent};
 
 use crate::merkle::MerkleProof;
+use crate::proof::MerklePath;
 use crate::read::{existence_of, non_existence_of, read_existence, read_non_existence};
-use rb_ics23::{MerklePath, is_absent_in_store, is_member_in_store};
+use crate::verify::{is_absent_in_store, is_member_in_store};
 use std::alloc::{AllocError, Global};
 
 /// Whether the proof shows that the path has this value under the app hash.

@@ -1,8 +1,8 @@
 -- What the bytes of two commitment proofs show (ICS 23 in IBC, `MerkleProof.VerifyMembership`, `VerifyNonMembership`).
 use Rattle.std.specs.Prelude.{ℕ, Bool, false, List, Option, Some, None}
 use Rattle.rb_ics23.specs.Verify.{is_member_in_store, is_absent_in_store}
-use Rattle.rb_ics23_read.specs.Ops.{◌>>=◌}
-use Rattle.rb_ics23_read.specs.Read.{existence, non_existence}
+use Rattle.rb_ics23.specs.Ops.{◌>>=◌}
+use Rattle.rb_ics23.specs.Read.{existence, non_existence}
 
 -- bytes that are no proof show nothing
 abbrev pub or_false : Option Bool → Bool
