@@ -1,4 +1,5 @@
-//! The words of a case: bytes in hex, numbers in digits, texts as they are, a space between two.
+//! The words of a case: what is asked, and what it is asked of: bytes in hex, numbers in digits, texts as they are, a space
+//! between two.
 use anyhow::bail;
 use std::alloc::Global;
 use std::str::Split;
@@ -6,10 +7,17 @@ use std::str::Split;
 /// The words of a case that aren't read yet.
 #[derive(Drop)]
 pub struct Words<'a> {
-    pub words: Split<'a, char>,
+    words: Split<'a, char>,
 }
 
 impl<'a> Words<'a> {
+    /// All words of a case.
+    pub fn of(line: &'a str) -> Words<'a> {
+        Words {
+            words: line.split(' '),
+        }
+    }
+
     /// The next word.
     pub fn text(&mut self) -> anyhow::Result<&'a str> {
         match self.words.next() {

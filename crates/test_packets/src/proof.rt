@@ -1,5 +1,5 @@
-//! A case is a word for what is asked, and what it is asked of: bytes in hex, texts as they are, a space between two.
-
+//! A case of ICS 23: what proofs show, what a message has of them, and the keys that they are of.
+use crate::words::Words;
 use anyhow::bail;
 use rb_ics23::{
     ExistenceProof, HashOp, LeafOp, LengthOp, MerklePath, MerkleProof, acknowledgement_path,
@@ -7,55 +7,25 @@ use rb_ics23::{
     shows_member,
 };
 use std::alloc::Global;
-use std::str::Split;
 
-/// The words of a case that aren't read yet.
-#[derive(Drop)]
-struct Words<'a> {
-    words: Split<'a, char>,
-}
-
-impl<'a> Words<'a> {
-    /// The next word.
-    fn text(&mut self) -> anyhow::Result<&'a str> {
-        match self.words.next() {
-            Some(word) => Ok(word),
-            None => bail!("a case has too few words"),
-        }
-    }
-
-    /// The next word, which is hex.
-    fn bytes(&mut self, alloc: Global) -> anyhow::Result<Vec<u8>> {
-        Ok(hex::decode(alloc, self.text()?)?)
-    }
-
-    /// The next word, which is a sequence.
-    fn sequence(&mut self) -> anyhow::Result<u64> {
-        Ok(self.text()?.parse()?)
-    }
-}
-
-/// What comes of a case.
-pub fn answer(alloc: Global, line: &str) -> anyhow::Result<String> {
-    let mut words = Words {
-        words: line.split(' '),
-    };
-    match words.text()? {
-        "member" => member(alloc, &mut words),
-        "absent" => absent(alloc, &mut words),
-        "leaf" => leaf(alloc, &mut words),
-        "proof" => proof(alloc, &mut words),
+/// What comes of a case that begins with this word.
+pub fn answer(alloc: Global, asked: &str, words: &mut Words) -> anyhow::Result<String> {
+    match asked {
+        "member" => member(alloc, words),
+        "absent" => absent(alloc, words),
+        "leaf" => leaf(alloc, words),
+        "proof" => proof(alloc, words),
         "commitment" => {
             let (port, channel) = (words.text()?, words.text()?);
-            Ok(commitment_path(alloc, port, channel, words.sequence()?)?)
+            Ok(commitment_path(alloc, port, channel, words.number()?)?)
         }
         "acknowledgement" => {
             let (port, channel) = (words.text()?, words.text()?);
-            Ok(acknowledgement_path(alloc, port, channel, words.sequence()?)?)
+            Ok(acknowledgement_path(alloc, port, channel, words.number()?)?)
         }
         "receipt" => {
             let (port, channel) = (words.text()?, words.text()?);
-            Ok(receipt_path(alloc, port, channel, words.sequence()?)?)
+            Ok(receipt_path(alloc, port, channel, words.number()?)?)
         }
         "next" => Ok(next_sequence_path(alloc, words.text()?, words.text()?)?),
         word => bail!("no case begins with {word}"),

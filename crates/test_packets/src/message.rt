@@ -1,5 +1,5 @@
-//! A case: a claim and its acknowledgement, a packet, the account that signs, the proof height, the app hash there, and what
-//! a node answered.
+//! A case of a packet message: a claim and its acknowledgement, a packet, the account that signs, the proof height, the app
+//! hash there, and what a node answered.
 use crate::words::Words;
 use anyhow::bail;
 use rb_packets::{
@@ -8,19 +8,15 @@ use rb_packets::{
 };
 use std::alloc::Global;
 
-/// What comes of a case.
-pub fn answer(alloc: Global, line: &str) -> anyhow::Result<String> {
-    let mut words = Words {
-        words: line.split(' '),
-    };
-    let kind = words.text()?;
+/// What comes of a case of this claim.
+pub fn answer(alloc: Global, claim: &str, words: &mut Words) -> anyhow::Result<String> {
     let acknowledgement = words.bytes(alloc)?;
-    let claim = claim_of(kind, &acknowledgement)?;
+    let claim = claim_of(claim, &acknowledgement)?;
     let sequence = words.number()?;
     let (source_port, source_channel) = (words.text()?, words.text()?);
     let (dest_port, dest_channel) = (words.text()?, words.text()?);
     let data = words.bytes(alloc)?;
-    let timeout_height = height(&mut words)?;
+    let timeout_height = height(words)?;
     let timeout_time = words.number()?;
     let packet = Packet {
         sequence,
@@ -33,7 +29,7 @@ pub fn answer(alloc: Global, line: &str) -> anyhow::Result<String> {
         timeout_time,
     };
     let signer = words.text()?;
-    let proof_height = height(&mut words)?;
+    let proof_height = height(words)?;
     let app_hash = words.bytes(alloc)?;
     let answer = words.bytes(alloc)?;
     let key = key_of(alloc, &packet, &claim)?;
@@ -60,8 +56,8 @@ fn height(words: &mut Words) -> anyhow::Result<RevisionHeight> {
     })
 }
 
-fn claim_of<'a>(kind: &str, acknowledgement: &'a [u8]) -> anyhow::Result<Claim<'a>> {
-    match kind {
+fn claim_of<'a>(claim: &str, acknowledgement: &'a [u8]) -> anyhow::Result<Claim<'a>> {
+    match claim {
         "sent" => Ok(Claim::Sent),
         "acknowledged" => Ok(Claim::Acknowledged(acknowledgement)),
         "unreceived" => Ok(Claim::Unreceived),
