@@ -1,3 +1,14 @@
-pub mod Laws
-pub mod Schedule
+pub mod Alive
 pub mod Examples
+pub mod Fewest
+pub mod InTime
+pub mod Laws
+pub mod Next
+pub mod Pressing
+pub mod Punctual
+pub mod Schedule
+pub mod Seen
+pub mod Steady
+pub mod Taken
+pub mod Updates
+pub mod Waiting

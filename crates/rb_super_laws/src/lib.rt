@@ -1,7 +1,8 @@
-//! Laws over definitions alone: a script has one report and an answer one verdict; whoever goes through a
-//! turn by the supervisor's rule, alone or with workers in any schedule, gives that report. Scripts that
-//! were read are ones that these laws speak of (`scripts`).
+//! Laws of a script's turns over definitions alone: a script has one report and an answer one verdict; whoever goes through
+//! a turn by the supervisor's rule, alone or with workers in any schedule, gives that report (`laws`); scripts that were
+//! read are ones that these laws speak of (`scripts`); what waits goes in time and in few updates (`waiting`).
 #![tactic(auto)]
 
 pub mod laws;
 pub mod scripts;
+pub mod waiting;

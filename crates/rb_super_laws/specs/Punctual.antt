@@ -1,0 +1,28 @@
+-- Where every open batch is taken, the updates that packets make keep every deadline (own choice).
+use Rattle.std.specs.Prelude.{ℕ, List, All, IsSomeAnd}
+use Rattle.rb_super_turn.specs.Report.{SendingReport, nothing, too_big, batched, PlanReport, Outcome, held, idle, planned, Report}
+use Rattle.rb_super_turn.specs.Script.{Script}
+use Rattle.rb_super_laws.specs.Fewest.{ClientTurn, IsRun, KeepsDeadlines, update_turns}
+use Rattle.rb_super_laws.specs.Taken.{TakesAll}
+
+-- a message of a plan is over the gas limit alone
+abbrev pub HasTooBig : SendingReport → Type 0
+HasTooBig nothing = ⊥
+HasTooBig (too_big index) = Unit {0}
+HasTooBig (batched b) = ⊥
+
+abbrev pub PlansTooBig : Outcome → Type 0
+PlansTooBig (held number) = ⊥
+PlansTooBig (idle next) = ⊥
+PlansTooBig (planned a) = IsSomeAnd a.plan (λ (p : PlanReport). HasTooBig p.sending)
+
+-- no plan of the client has such a message
+abbrev pub NoneIsTooBig : List ClientTurn → Type 0
+NoneIsTooBig ks = All (λ (k : ClientTurn). ¬ PlansTooBig k.report.outcome) ks
+
+-- in a script that takes all batches and asks for no goal, the turns in which packets make a client update are themselves a choice that
+-- keeps every deadline
+abbrev pub UpdatesKeepDeadlines : Type 0
+UpdatesKeepDeadlines =
+    (script : Script) (report : Report) (place : ℕ) (ks : List ClientTurn) → IsRun script report place ks → TakesAll script → NoneIsTooBig ks
+    → KeepsDeadlines ks (update_turns ks)
