@@ -1,4 +1,5 @@
 pub mod Answered
+pub mod Asking
 pub mod Contents
 pub mod Ends
 pub mod Keys

@@ -5,6 +5,7 @@
 mod answered;
 mod content;
 mod keys;
+pub mod laws;
 mod lines;
 mod packet_lines;
 mod reason;

@@ -1,2 +1,4 @@
 pub mod Halving
 pub mod Leading
+pub mod Rounds
+pub mod Totals

@@ -1,3 +1,4 @@
 pub mod Search
 pub mod Hop
 pub mod Laws
+pub mod Rounds

@@ -18,7 +18,7 @@ use Rattle.rb_want_requests.specs.declared.content.Folders.{Folders}
 use Rattle.rb_want_requests.specs.declared.request.Query.{Query}
 use Rattle.rb_want_requests.specs.declared.request.Query.TheVariants as queries
 use Rattle.rb_want_requests.specs.declared.request.Request.{Request}
-use Rattle.rb_want_laws.specs.Asking.{HasAll, HaveAll, HasAllOf}
+use Rattle.rb_want_requests.specs.Asking.{HasAll, HaveAll, HasAllOf}
 
 -- what some element passes, one of more elements does
 any_stays : {X : Type 0} (p : X → Bool) (xs ys : List X) → HasAll xs ys → list_any p xs ≡ true → list_any p ys ≡ true

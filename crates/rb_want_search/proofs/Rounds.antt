@@ -8,7 +8,7 @@ use Rattle.rb_want_search.specs.Search.{IsGapAfter, IsHalved, IsNext, middle_of}
 use Rattle.rb_want_search.specs.declared.judge.Judgement.{Judgement}
 use Rattle.rb_want_search.specs.declared.judge.Judgement.TheVariants.{Accepted, Refused, Gone, Unknown}
 use Rattle.rb_want_search.specs.declared.searching.Aim.{Aim}
-use Rattle.rb_want_laws.specs.Searching.{Asks, FewFromOne, IsLater, Round, judged_by}
+use Rattle.rb_want_search.specs.Rounds.{Asks, FewFromOne, IsLater, Round, judged_by}
 
 -- ---- judgements
 

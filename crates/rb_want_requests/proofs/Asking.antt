@@ -6,9 +6,9 @@ use Rattle.std.proofs.lemmas.List.Kept.{AllPairs-cons}
 use Rattle.rb_want_requests.specs.Requests.{is_new, is_same}
 use Rattle.rb_want_requests.specs.declared.content.Folders.{Folders}
 use Rattle.rb_want_requests.specs.declared.request.Request.{Request}
-use Rattle.rb_want_laws.specs.Asking.{AreOthers, AreRounds, NoneTwice, Round}
-use Rattle.rb_want_laws.proofs.Same.{alike}
-use Rattle.rb_want_laws.proofs.Staying.{stays}
+use Rattle.rb_want_requests.specs.Asking.{AreOthers, AreRounds, NoneTwice, Round}
+use Rattle.rb_want_requests.proofs.Same.{alike}
+use Rattle.rb_want_requests.proofs.Staying.{stays}
 
 -- a request that isn't new in a round is new in no later one
 later : (r : Round) (rs : List Round) (q : Request) → is_new r.folders q ≡ false → AreRounds (r ∷ rs) → All (λ s. is_new s.folders q ≡ false) rs

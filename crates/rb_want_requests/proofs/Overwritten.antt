@@ -11,7 +11,7 @@ use Rattle.rb_want_requests.specs.declared.content.Content.{Content}
 use Rattle.rb_want_requests.specs.declared.content.Folder.{Folder}
 use Rattle.rb_want_requests.specs.declared.request.Query.{Query}
 use Rattle.rb_want_requests.specs.declared.request.Query.TheVariants as queries
-use Rattle.rb_want_laws.specs.Asking.{NoneOverwritten, is_asked_by}
+use Rattle.rb_want_requests.specs.Asking.{NoneOverwritten, is_asked_by}
 
 neither : (a b : Bool) → a || b ≡ false → a ≡ false
 neither true b is = is
