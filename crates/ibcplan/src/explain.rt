@@ -3,8 +3,7 @@ ghost use Rattle.rb_script_types.specs.Script.{script_view, IsReadScript};
 
 use crate::forms::{no_such_turn, number_of};
 use crate::searching::can_search;
-use ibcplan_cli::WantedTurns;
-use ibcplan_errors::{Input, ProgramError, Shown};
+use ibcplan_cli::{Input, ProgramError, Shown, WantedTurns};
 use rb_base::{Gate, Sink};
 use rb_explain::{Detail, Listener, TurnExplanation, Wanted, explain_script};
 use rb_explain_picture::picture_of;

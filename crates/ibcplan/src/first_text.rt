@@ -1,6 +1,6 @@
 //! Texts that come one after the other on standard input, each ended by a line `---`.
 use crate::host::Host;
-use ibcplan_errors::{Input, ProgramError, STANDARD_INPUT, bytes_of};
+use ibcplan_cli::{Input, ProgramError, STANDARD_INPUT, bytes_of};
 use rb_follow::Gathering;
 use rb_script_toml::MAX_BYTES;
 use std::alloc::{AllocError, Global};

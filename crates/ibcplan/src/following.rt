@@ -3,11 +3,10 @@ ghost use Rattle.std.specs.Prelude.{◌≡◌, ◌⊎◌, false, Err, IfErr, IsE
 ghost use Rattle.rb_follow.specs.Setups.{setup_of};
 ghost use Rattle.rb_follow.specs.Journals.{outs};
 ghost use Rattle.rb_follow.specs.Headline.{Follows, BeginsFollowing};
-ghost use Rattle.ibcplan_errors.specs.Failures.{failure_status, told_fault, is_unwritten};
+ghost use Rattle.ibcplan_cli.specs.Failures.{failure_status, told_fault, is_unwritten};
 
 use crate::host::Host;
-use ibcplan_cli::WorkerCount;
-use ibcplan_errors::{Input, ProgramError};
+use ibcplan_cli::{Input, ProgramError, WorkerCount};
 use rb_base::{Gate, Sink};
 use rb_follow::{FollowError, Form, Journal, Watcher, follow_over};
 use rb_script_toml::{Fault, FaultName};

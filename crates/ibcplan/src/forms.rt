@@ -2,8 +2,7 @@
 ghost use Rattle.rb_script_types.specs.Script.{script_view, IsReadScript};
 
 use crate::reporting::plan_status;
-use ibcplan_cli::{WantedTurns, WorkerCount};
-use ibcplan_errors::{Input, ProgramError, Turns};
+use ibcplan_cli::{Input, ProgramError, Turns, WantedTurns, WorkerCount};
 use rb_base::Gate;
 use rb_health::{healths_of, with_health};
 use rb_script_read::{read_script, read_script_by};

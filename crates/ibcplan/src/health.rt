@@ -1,7 +1,7 @@
 //! When the clients of a script expire, as lines and as metrics.
 ghost use Rattle.rb_script_types.specs.Script.{script_view, IsReadScript};
 
-use ibcplan_errors::{Input, ProgramError};
+use ibcplan_cli::{Input, ProgramError};
 use rb_base::Gate;
 use rb_health::{healths_of, metrics_of, text_of};
 use rb_script_read::read_script;

@@ -1,6 +1,6 @@
 //! The journal of a follower in a file: a script of the turns that were answered, from which it goes on after a crash.
 use crate::host::Host;
-use ibcplan_errors::{Input, ProgramError, Shown};
+use ibcplan_cli::{Input, ProgramError, Shown};
 use rb_follow::{Journal, check_setup};
 use rb_journal::{
     damage_in, entry_text, input_of, is_opening, opening_text, split_part, stored_in,

@@ -1,7 +1,7 @@
 //! ibcplan plans the client updates of an IBC relayer's script, and judges plans that others made.
-//! What it does stands in `rb_text`, `rb_follow`, `rb_import`, `rb_text_export`, `rb_health` and `rb_sending`, its command line in
-//! `ibcplan_cli`, its folders in `ibcplan_folders`, its statuses and words for the operator in `ibcplan_errors`; here each request is
-//! done, and the status of a plan with `--strict` goes by whether its report tells of something refused.
+//! What it does stands in `rb_text`, `rb_follow`, `rb_import`, `rb_text_export`, `rb_health` and `rb_sending`, its command line, its
+//! statuses and its words for the operator in `ibcplan_cli`, its folders in `ibcplan_folders`; here each request is done, and the
+//! status of a plan with `--strict` goes by whether its report tells of something refused.
 #![tactic(auto)]
 
 mod explain;
@@ -20,8 +20,7 @@ mod searching;
 mod verdict;
 
 use host::Host;
-use ibcplan_cli::{no_memory, request_of};
-use ibcplan_errors::status;
+use ibcplan_cli::{no_memory, request_of, status};
 use std::io::IsTerminal;
 use std::process::ExitCode;
 use std::{env, io};

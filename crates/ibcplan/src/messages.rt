@@ -2,7 +2,7 @@
 ghost use Rattle.rb_script_types.specs.Script.{script_view, IsReadScript};
 
 use crate::host::Host;
-use ibcplan_errors::{Input, ProgramError, status};
+use ibcplan_cli::{Input, ProgramError, status};
 use ibcplan_folders::{
     Answers, ImportedText, PacketTexts, files_of, imported, lines_of, packet_texts, read_answers,
     write_files,

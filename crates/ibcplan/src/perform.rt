@@ -3,7 +3,7 @@ ghost use Rattle.std.specs.Prelude.{◌≡◌, ◌⊎◌, false, Err, IfOk, IfEr
 ghost use Rattle.rb_text.specs.Scripts.{script_of};
 ghost use Rattle.rb_text.specs.Headline.{BeginsReport};
 ghost use Rattle.rb_text.specs.Verdicts.{IsFaultFor, BeginsVerdict};
-ghost use Rattle.ibcplan_errors.specs.Failures.{failure_status, told_fault, is_unwritten};
+ghost use Rattle.ibcplan_cli.specs.Failures.{failure_status, told_fault, is_unwritten};
 ghost use Rattle.ibcplan.specs.Status.{IsPlanWritten, IsConfirmed, IsDenied};
 
 use crate::explain::{AskedExplanation, Form, explain};
@@ -18,8 +18,10 @@ use crate::messages::{Folders, MessageLines, messages_of};
 use crate::progress::Progress;
 use crate::reporting::{plan_status, refused_events};
 use crate::verdict::verdict_json;
-use ibcplan_cli::{Following, Request, Wanted, WantedTurns, WorkerCount, setup_for};
-use ibcplan_errors::{Input, ProgramError, STANDARD_INPUT, status};
+use ibcplan_cli::{
+    Following, Input, ProgramError, Request, STANDARD_INPUT, Wanted, WantedTurns, WorkerCount,
+    setup_for, status,
+};
 use ibcplan_folders::{Answers, ImportedText, WantedText, imported, wanted};
 use rb_base::{Counted, Gate, Sink, write_whole};
 use rb_follow::{Form as AnswerForm, NoJournal, greeting, json_of_fault};

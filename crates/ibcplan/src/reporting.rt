@@ -4,7 +4,7 @@ ghost use Rattle.std.specs.List.{list_any};
 ghost use Rattle.rb_super_turn.specs.Views.{settlement_view, turn_report_view, report_view};
 ghost use Rattle.ibcplan.specs.Status.{has_refusal, plan_status, refused_events};
 
-use ibcplan_errors::status;
+use ibcplan_cli::status;
 use rb_super_turn::{Report, SettlementReport, TurnReport};
 
 /// Whether one of a turn's settlements is refused.

@@ -1,8 +1,8 @@
 //! The command line of `certify`.
+use crate::input::STANDARD_INPUT;
 use crate::request::{JSON, Request, SCRIPT, flag, script_command};
 use clap::error::ErrorKind;
 use clap::{Arg, ArgMatches, Command, Error};
-use ibcplan_errors::STANDARD_INPUT;
 use std::alloc::{AllocError, Global};
 
 pub(crate) const CERTIFY: &str = "certify";

@@ -1,7 +1,9 @@
 //! The command line read, and what is told of it where it asks for nothing.
+use crate::error::ProgramError;
 use crate::request::{Request, read_request};
+use crate::shown::shown_text;
+use crate::status;
 use clap::error::ErrorKind;
-use ibcplan_errors::{ProgramError, shown_text, status};
 use std::alloc::{AllocError, Global};
 
 /// The request of the command line's words. Where they make none, the help that they ask for, or what is

@@ -1,20 +1,31 @@
-//! The program's command line: what it asks for, and what is told of it where it asks for nothing; and setups of other
-//! relayers' configurations.
+//! What the program and its operator say to each other: the command line; why there is no result, with the status that the
+//! program ends with, what is wrong with a file or a word, and what to do about it; the files that it reads; and setups of
+//! other relayers' configurations.
 #![tactic(auto)]
 
+mod advice;
 mod certify_request;
 mod command_line;
+mod error;
 mod explain_request;
 mod follow_request;
 mod health_request;
+mod input;
+mod input_error;
 mod messages_request;
 mod request;
 mod setting_up;
 mod setup_request;
+mod shown;
+pub mod status;
 mod worker_count;
 
 pub use command_line::{no_memory, request_of};
+pub use error::{ProgramError, Turns};
 pub use follow_request::Following;
+pub use input::{Input, STANDARD_INPUT, bytes_of};
+pub use input_error::InputError;
 pub use request::{Request, Wanted, WantedTurns};
 pub use setting_up::setup_for;
+pub use shown::{Shown, shown_text};
 pub use worker_count::WorkerCount;

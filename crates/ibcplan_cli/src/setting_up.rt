@@ -1,5 +1,6 @@
 //! Setups of the configuration of another relayer.
-use ibcplan_errors::{Input, ProgramError};
+use crate::error::ProgramError;
+use crate::input::Input;
 use rb_hermes::{HermesError, NamedClient, setup_of};
 use std::alloc::Global;
 

@@ -10,7 +10,7 @@ ghost use Rattle.ibcplan_folders.specs.LeftOut.{import_status};
 
 use crate::file_system::FileSystem;
 use crate::left_out::{Failure, Fleet, LeftOut, is_tracked};
-use ibcplan_errors::{Input, ProgramError, bytes_of, shown_text};
+use ibcplan_cli::{Input, ProgramError, bytes_of, shown_text};
 use rb_base::ChainId;
 use rb_import::{Composed, compose};
 use rb_import_answers::revision_of;

@@ -4,7 +4,7 @@ ghost use Rattle.std.specs.List.{items_where_true, list_any};
 ghost use Rattle.rb_import_setup.specs.Rests.{client_stays};
 ghost use Rattle.ibcplan_folders.specs.LeftOut.{clients_stay, import_status, object_count, paths_stay};
 
-use ibcplan_errors::{ProgramError, status};
+use ibcplan_cli::{ProgramError, status};
 use rb_import_check::{Saved, SavedAnswers};
 use rb_import_setup::{Rest, Setup, rest_without};
 use std::alloc::{AllocError, Global};

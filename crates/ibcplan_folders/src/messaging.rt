@@ -6,7 +6,7 @@ ghost use Rattle.ibcplan_folders.specs.Messages.{AreMessagesBy};
 
 use crate::file_system::FileSystem;
 use crate::importing::{Votes, add, path_in, read_folder};
-use ibcplan_errors::ProgramError;
+use ibcplan_cli::ProgramError;
 use rb_base::ChainId;
 use rb_import_check::Saved;
 use rb_messages::{

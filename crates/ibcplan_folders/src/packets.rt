@@ -1,7 +1,7 @@
 //! The packet messages of batches: the folders of paths are read, and what they hold of proofs.
 use crate::file_system::FileSystem;
 use crate::importing::{add, names_in, path_in, read_bytes};
-use ibcplan_errors::{ProgramError, shown_text};
+use ibcplan_cli::{ProgramError, shown_text};
 use rb_base::ChainId;
 use rb_import_answers::revision_of;
 use rb_import_setup::Sender;

@@ -2,7 +2,7 @@
 use crate::file_system::FileSystem;
 use crate::importing::{add, path_in, read_bytes, tracked_revision};
 use crate::left_out::is_tracked;
-use ibcplan_errors::{Input, ProgramError};
+use ibcplan_cli::{Input, ProgramError};
 use rb_import_setup::{Setup, read_setup};
 use rb_want::wanted_of;
 use rb_want_requests::{Content, Folder, Folders, Wanted, content_of};

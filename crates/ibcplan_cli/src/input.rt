@@ -32,7 +32,7 @@ impl<'a> Model for Input<'a> {
 
 impl<'a> Input<'a> {
     ghost use Rattle.std.specs.Prelude.{false, None};
-    ghost use Rattle.ibcplan_errors.specs.Failures.{failure_status, told_fault, is_unwritten};
+    ghost use Rattle.ibcplan_cli.specs.Failures.{failure_status, told_fault, is_unwritten};
 
     /// Reads a file, or standard input.
     pub fn read<R: Files + io::Input + AllocGlobal>(

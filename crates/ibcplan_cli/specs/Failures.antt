@@ -3,8 +3,8 @@ use Rattle.std.specs.Prelude.{◌≡◌, ◌⊎◌, ℕ, Bool, true, false, Opti
 use Rattle.rb_script_toml.specs.Faults.{Fault, fault_view}
 use Rattle.rb_script_toml.specs.declared.fault.RunError.{RunError}
 use Rattle.rb_script_toml.specs.declared.fault.RunError.TheVariants as errors
-use Rattle.ibcplan_errors.specs.declared.error.ProgramError.{ProgramError}
-use Rattle.ibcplan_errors.specs.declared.error.ProgramError.TheVariants.{Refused, RefusedAnswers, NoSuchTurn, NoSuchClient, BadClient, NoJournal, DamagedJournal, JournalFails, Unreadable, UnreadableAnswers, Unmade, Unwritten, NoMemory}
+use Rattle.ibcplan_cli.specs.declared.error.ProgramError.{ProgramError}
+use Rattle.ibcplan_cli.specs.declared.error.ProgramError.TheVariants.{Refused, RefusedAnswers, NoSuchTurn, NoSuchClient, BadClient, NoJournal, DamagedJournal, JournalFails, Unreadable, UnreadableAnswers, Unmade, Unwritten, NoMemory}
 
 -- 1: a file's content was refused; 2: the script hasn't the turn or the client that was asked for, a configuration makes no setup for a client, or a file can't be the journal, or is damaged; 4: want of memory, or a file or an output that fails
 abbrev pub failure_status : ProgramError → ℕ

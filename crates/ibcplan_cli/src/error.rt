@@ -1,7 +1,7 @@
 //! Why the program gave no result: the line that says so, and what to do about it.
 ghost use Rattle.std.specs.Prelude.{◌≡◌, true, false, None};
 ghost use Rattle.rb_script_toml.specs.Faults.{status_of};
-ghost use Rattle.ibcplan_errors.specs.Failures.{failure_status, IsFailureStatus, told_fault, is_unwritten, error_fault, is_device};
+ghost use Rattle.ibcplan_cli.specs.Failures.{failure_status, IsFailureStatus, told_fault, is_unwritten, error_fault, is_device};
 
 use crate::advice::{advice_for, setup_advice_for};
 use crate::input::Input;
