@@ -1,6 +1,7 @@
 pub use Rattle.rb_script_toml.specs.Documents
 pub use Rattle.rb_script_toml.specs.Faults
 pub mod Chains
+pub mod Fees
 pub mod Senders
 pub mod Clients
 pub mod Paths

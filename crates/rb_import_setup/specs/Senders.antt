@@ -6,10 +6,10 @@ use Rattle.rb_script_toml.specs.Faults.{Fault, ◌>>=◌, check, fault}
 use Rattle.rb_script_toml.specs.KeyPaths.{element}
 use Rattle.rb_script_toml.specs.Fields.{Field, Section, text, needs, optional, or_default, two_integers, within, max_number}
 use Rattle.rb_script_toml.specs.declared.fault.FaultName.TheVariants.{BadIdentifier, BadKind, OutOfRange}
-use Rattle.rb_transactions.specs.Fees.{Ratio}
-use Rattle.rb_transactions.specs.declared.update.UpdateField.{UpdateField}
-use Rattle.rb_transactions.specs.declared.update.UpdateField.TheVariants.{ClientMessage, Header}
+use Rattle.rb_import_setup.specs.Fees.{Ratio}
 use Rattle.rb_import_setup.specs.declared.sender.Sender.{Sender as CodeSender}
+use Rattle.rb_import_setup.specs.declared.sender.UpdateField.{UpdateField}
+use Rattle.rb_import_setup.specs.declared.sender.UpdateField.TheVariants.{ClientMessage, Header}
 
 pub record Sender : Type 0 where
   pub signer : List ℕ

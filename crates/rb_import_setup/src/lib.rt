@@ -5,6 +5,7 @@
 
 mod chain;
 mod client;
+mod fee;
 mod path;
 mod reading;
 mod rest;
@@ -14,8 +15,9 @@ mod telling;
 mod turn;
 mod window;
 
+pub use fee::{Ratio, fee_amount, gas_limit};
 pub use reading::read_setup;
 pub use rest::{Rest, rest_without};
-pub use sender::Sender;
+pub use sender::{Sender, UpdateField};
 pub use setup::{ClientSetup, PathSetup, Setup, TrustSetup, TurnSetup};
 pub use telling::is_setup;

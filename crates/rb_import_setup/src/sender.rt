@@ -4,12 +4,12 @@ ghost use Rattle.std.specs.List.{list_all};
 ghost use Rattle.toml.specs.View.{view, items_view};
 ghost use Rattle.rb_script_toml.specs.Faults.{Gives};
 ghost use Rattle.rb_script_toml.specs.Fields.{field_view, section_view, needs, optional, or_default, at_element, elements};
-ghost use Rattle.rb_transactions.specs.Fees.{Ratio as Number};
-ghost use Rattle.rb_transactions.specs.declared.update.UpdateField.TheVariants.{ClientMessage};
+ghost use Rattle.rb_import_setup.specs.Fees.{Ratio as Number};
+ghost use Rattle.rb_import_setup.specs.declared.sender.UpdateField.TheVariants.{ClientMessage};
 ghost use Rattle.rb_import_setup.specs.Senders.{account, coin, default_factor, has_length, is_account, is_account_byte, is_coin, is_coin_byte, is_silent, ratio, sender, sender_of, sender_view, update_field};
 
+use crate::fee::Ratio;
 use rb_script_toml::{FaultName, Field, MAX_NUMBER, RunError, Section, element_path, section_at};
-use rb_transactions::{Ratio, UpdateField};
 use std::alloc::Global;
 use toml::Value;
 
@@ -22,6 +22,15 @@ pub struct Sender {
     pub gas_price: Ratio,
     pub gas_factor: Ratio,
     pub update_field: UpdateField,
+}
+
+/// The name of the field that has a client message: ibc-go renamed it in its version 7.
+#[derive(Clone, Copy, Debug, PartialEq, Eq)]
+pub enum UpdateField {
+    /// Of ibc-go from version 7 on.
+    ClientMessage,
+    /// Of versions before.
+    Header,
 }
 
 /// The most characters of an account and of a coin.

@@ -1,3 +1,4 @@
 pub mod Updates
 pub mod Batches
+pub mod Texts
 pub mod Transactions

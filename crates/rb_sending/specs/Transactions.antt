@@ -4,12 +4,12 @@ use Rattle.std.specs.Global.{Global}
 use Rattle.std.specs.List.{enumerate_from, flat_map}
 use Rattle.std.specs.Option.{option_flatten, option_map_or, option_to_list}
 use Rattle.rb_batch.specs.declared.transaction.Transaction.{Transaction}
+use Rattle.rb_import_setup.specs.Fees.{fee_amount, gas_limit}
 use Rattle.rb_import_setup.specs.Senders.{Sender, sender_view}
 use Rattle.rb_import_setup.specs.declared.sender.Sender.{Sender as CodeSender}
 use Rattle.rb_messages.specs.declared.message.MessageFile.{MessageFile}
-use Rattle.rb_transactions.specs.Fees.{fee_amount, gas_limit}
-use Rattle.rb_transactions.specs.Texts.{transaction_text, update_message_text}
 use Rattle.rb_want_requests.specs.Lines.{own_id}
+use Rattle.rb_sending.specs.Texts.{transaction_text, update_message_text}
 use Rattle.rb_sending.specs.declared.batch.PlannedBatch.{PlannedBatch}
 use Rattle.rb_sending.specs.declared.transactions.TransactionFile.{TransactionFile}
 

@@ -6,11 +6,12 @@ ghost use Rattle.rb_import_setup.specs.Senders.{sender_view};
 ghost use Rattle.rb_sending.specs.Transactions.{file_in, file_view, files_from, line_of, messages_in, messages_of, packets_at, sender_at, text_of, update_text};
 
 use crate::batch::PlannedBatch;
+use crate::transaction_text::{Fee, transaction_text};
+use crate::update_text::update_message_text;
 use rb_base::ChainId;
 use rb_batch::Transaction;
-use rb_import_setup::Sender;
+use rb_import_setup::{Sender, fee_amount, gas_limit};
 use rb_messages::{MessageFile, id_of};
-use rb_transactions::{Fee, fee_amount, gas_limit, transaction_text, update_message_text};
 use rb_want_requests::own_id;
 use std::alloc::{AllocError, Global};
 

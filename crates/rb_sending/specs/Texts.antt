@@ -2,9 +2,9 @@
 use Rattle.std.specs.Prelude.{ℕ, List, ◌++◌, codes, nat_lt, if◌then◌else◌}
 use Rattle.std.specs.List.{enumerate_from, flat_map}
 use Rattle.std.specs.Fmt.{decimal}
-use Rattle.rb_transactions.specs.declared.transaction.Fee.{Fee as CodeFee}
-use Rattle.rb_transactions.specs.declared.update.UpdateField.{UpdateField}
-use Rattle.rb_transactions.specs.declared.update.UpdateField.TheVariants.{ClientMessage, Header}
+use Rattle.rb_sending.specs.declared.transaction_text.Fee.{Fee as CodeFee}
+use Rattle.rb_import_setup.specs.declared.sender.UpdateField.{UpdateField}
+use Rattle.rb_import_setup.specs.declared.sender.UpdateField.TheVariants.{ClientMessage, Header}
 
 -- ---- an update
 

@@ -1,22 +1,14 @@
 //! The message of an update (ICS 2; ibc-go, `MsgUpdateClient`).
 ghost use Rattle.std.specs.Prelude.{◌≡◌, ◌++◌, IfOk, OnOk, string_bytes};
-ghost use Rattle.rb_transactions.specs.Texts.{client_text, field_name, field_text, signer_text, update_message_text};
+ghost use Rattle.rb_sending.specs.Texts.{client_text, field_name, field_text, signer_text, update_message_text};
 
+use rb_import_setup::UpdateField;
 use std::alloc::{AllocError, Global};
-
-/// The name of the field that has a client message: ibc-go renamed it in its version 7.
-#[derive(Clone, Copy, Debug, PartialEq, Eq)]
-pub enum UpdateField {
-    /// Of ibc-go from version 7 on.
-    ClientMessage,
-    /// Of versions before.
-    Header,
-}
 
 /// A message that updates a client on its host by a client message, which is JSON, and that an account signs. The
 /// identifier and the account have no character that JSON escapes.
 #[tactic(auto, using(crate::proofs::Added::added), unfolding(crate::specs::Texts::update_message_text))]
-pub fn update_message_text(
+pub(crate) fn update_message_text(
     alloc: Global,
     client: &str,
     field: UpdateField,

@@ -1,7 +1,7 @@
 use Rattle.std.proofs.Common.{◌≡◌, ◌++◌, drop, map, string_bytes}
 use Rattle.std.specs.List.{enumerate_from, flat_map}
-use Rattle.rb_transactions.specs.Texts.{listed_text}
-use Rattle.rb_transactions.proofs.transaction.push_messages.Given as goal
+use Rattle.rb_sending.specs.Texts.{listed_text}
+use Rattle.rb_sending.proofs.transaction_text.push_messages.Given as goal
 
 -- what is written, and what is left
 abbrev pub invariant-loop-place : goal.invariant-loop-place

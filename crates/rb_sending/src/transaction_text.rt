@@ -1,13 +1,13 @@
 //! A transaction that isn't signed (Cosmos SDK, `Tx`).
 ghost use Rattle.std.specs.Prelude.{◌≡◌, ◌++◌, IfOk, OnOk, map, string_bytes};
 ghost use Rattle.std.specs.List.{enumerate_from, flat_map};
-ghost use Rattle.rb_transactions.specs.Texts.{amount_text, body_text, denom_text, fee_text, fee_view, gas_text, listed_text, transaction_text};
+ghost use Rattle.rb_sending.specs.Texts.{amount_text, body_text, denom_text, fee_text, fee_view, gas_text, listed_text, transaction_text};
 
 use std::alloc::{AllocError, Global};
 
 /// What a transaction pays: an amount of a coin, and the most gas that it takes.
 #[derive(Clone, Copy, Debug)]
-pub struct Fee<'a> {
+pub(crate) struct Fee<'a> {
     pub denom: &'a str,
     pub amount: u128,
     pub gas_limit: u64,
@@ -15,7 +15,11 @@ pub struct Fee<'a> {
 
 /// The transaction of these messages, each of which is JSON. The coin has no character that JSON escapes.
 #[tactic(auto, using(crate::proofs::Added::added), unfolding(crate::specs::Texts::transaction_text))]
-pub fn transaction_text(alloc: Global, messages: &[String], fee: &Fee) -> Result<String, AllocError>
+pub(crate) fn transaction_text(
+    alloc: Global,
+    messages: &[String],
+    fee: &Fee,
+) -> Result<String, AllocError>
     ensures { IfOk result (λ text. string_bytes text ≡ transaction_text (map string_bytes messages.now) (fee_view fee.now)) }
 {
     let mut text = String::new(alloc);

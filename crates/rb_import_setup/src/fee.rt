@@ -1,6 +1,6 @@
 //! What a transaction pays.
 ghost use Rattle.std.specs.Prelude.{◌≡◌, ◌<◌, ◌^◌, SomeIff};
-ghost use Rattle.rb_transactions.specs.Fees.{IsRatio, fee_amount, gas_limit, times_up};
+ghost use Rattle.rb_import_setup.specs.Fees.{IsRatio, fee_amount, gas_limit, times_up};
 
 use std::marker::Model;
 
@@ -12,7 +12,7 @@ pub struct Ratio {
 }
 
 impl Model for Ratio {
-    ghost use Rattle.rb_transactions.specs.Fees as fees;
+    ghost use Rattle.rb_import_setup.specs.Fees as fees;
 
     ghost Value = { fees.Ratio };
 

@@ -1,2 +1,0 @@
-pub mod Fees
-pub mod Texts
