@@ -9,6 +9,7 @@ pub mod Revisions
 pub mod Packets
 pub mod Pending
 pub mod Verdicts
+pub mod Statuses
 pub mod Queries
 pub mod Unread
 pub mod Answers

@@ -1,6 +1,6 @@
 -- The answers of ibc-go's gateway that tell which packets of a channel are pending (ICS 4: packet commitments, receipts and acknowledgements;
 -- ibc-go's `packet_commitments`, `unreceived_packets` and `packet_acknowledgements`).
-use Rattle.std.specs.Prelude.{ℕ, List, [], ◌∷◌, ◌++◌, Bool, ◌||◌, if◌then◌else◌, Option, option_and_then, Result, Ok}
+use Rattle.std.specs.Prelude.{ℕ, List, [], ◌∷◌, ◌++◌, Bool, ◌||◌, if◌then◌else◌, Option, option_and_then, option_map, string_bytes, Result, Ok}
 use Rattle.serde_json.specs.Data.{Data, Items, no_items, item}
 use Rattle.serde_json.specs.Find.{as_str}
 use Rattle.rb_import_json.specs.declared.error.FieldError.{FieldError}
@@ -13,16 +13,17 @@ use Rattle.rb_import_json.specs.Values.{number_of}
 use Rattle.rb_import_answers.specs.declared.pending.SequencePage.{SequencePage}
 use Rattle.rb_import_answers.specs.declared.pending.Pending.{Pending as CodePending}
 use Rattle.rb_import_answers.specs.declared.pending.Pending.TheVariants as answers
-use Rattle.rb_import_answers.specs.Clients.{is_last}
+use Rattle.rb_import_answers.specs.Clients.{is_last, next_key}
 use Rattle.rb_import_answers.specs.Numbers.{in_script, script_number}
 
--- the sequences of a page, and whether no page follows
+-- the sequences of a page, whether no page follows, and the key of the next page as the gateway wrote it
 pub record Page : Type 0 where
   pub sequences : List ℕ
   pub is_last : Bool
+  pub next_key : Option (List ℕ)
 
 abbrev pub page_view : SequencePage → Page
-page_view p = record { sequences = p.sequences.items; is_last = p.is_last }
+page_view p = record { sequences = p.sequences.items; is_last = p.is_last; next_key = option_map string_bytes p.next_key }
 
 -- those that were sent and are neither acknowledged nor timed out
 unfoldable pub committed : Object → Result Page FieldError
@@ -30,7 +31,7 @@ committed answer = do
   last ← is_last answer
   entries ← items Key.Commitments answer
   all ← each (script_number Key.Sequence) Segment.Commitments [] entries
-  Ok (record { sequences = all; is_last = last })
+  Ok (record { sequences = all; is_last = last; next_key = next_key answer })
 
 -- those of which the acknowledgement was written
 unfoldable pub acknowledged : Object → Result (List ℕ) FieldError

@@ -2,10 +2,11 @@
 use Rattle.std.specs.Prelude.{ℕ, List, codes, Option, Some, None, if◌then◌else◌}
 use Rattle.rb_import_json.specs.declared.field_path.Key.{Key}
 use Rattle.rb_import_json.specs.Fields.{Object, has}
+use Rattle.rb_import_answers.specs.Statuses.{status_of}
 use Rattle.rb_import_answers.specs.declared.query.Query.{Query}
 
 abbrev pub query_path : Query → List ℕ
-query_path Query.Status = codes "/status"
+query_path (Query.Status s) = codes "/status"
 query_path Query.BlockResults = codes "/block_results"
 query_path Query.Blockchain = codes "/blockchain"
 query_path Query.Block = codes "/block"
@@ -25,7 +26,7 @@ query_of_gateway o =
 
 unfoldable pub query_of : Object → Option Query
 query_of o =
-    if has Key.SyncInfo o then Some Query.Status
+    if has Key.SyncInfo o then Some (Query.Status (status_of o.value))
     else if has Key.TxsResults o then Some Query.BlockResults
     else if has Key.BlockMetas o then Some Query.Blockchain
     else if has Key.Block o then Some Query.Block

@@ -201,7 +201,7 @@ pub(crate) fn read_consensus_states(
 
 /// The key of the next page, where it is a text.
 #[tactic(auto, using(rb_import_json::proofs::Steps::steps), unfolding(crate::specs::Clients::next_key))]
-fn next_key<'a>(answer: &Object<'a>) -> Option<&'a str>
+pub(crate) fn next_key<'a>(answer: &Object<'a>) -> Option<&'a str>
     ensures { option_map (λ key. key.now) result ≡ next_key (object_view answer.now) }
 {
     let pagination = answer.inner(Key::Pagination).ok()?;
@@ -209,7 +209,7 @@ fn next_key<'a>(answer: &Object<'a>) -> Option<&'a str>
 }
 
 /// A text of its own.
-fn copied(alloc: Global, text: Option<&str>) -> Result<Option<String>, AnswerError>
+pub(crate) fn copied(alloc: Global, text: Option<&str>) -> Result<Option<String>, AnswerError>
     ensures { Gives (λ copy. option_map string_bytes copy) result (Ok (option_map (λ text. text.now) text.entry)) }
 {
     match text {

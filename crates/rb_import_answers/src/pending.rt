@@ -6,17 +6,19 @@ ghost use Rattle.rb_import_json.specs.Fields.{each, object_view};
 ghost use Rattle.rb_import_answers.specs.Numbers.{script_number};
 ghost use Rattle.rb_import_answers.specs.Pending.{acknowledged, committed, is_pending, page_view, pending, pending_view, sequence, sequence_in, sequences, sequences_from};
 
-use crate::client::read_is_last;
+use crate::client::{copied, next_key, read_is_last};
 use crate::number::{in_script, script_number};
 use rb_import_json::{AnswerError, FieldError, FieldErrorName, Key, Object, Segment, number_of};
 use serde_json::Value;
 use std::alloc::Global;
 
-/// The sequences of a page of an answer, below 2^63, and whether no page follows.
+/// The sequences of a page of an answer, below 2^63, whether no page follows, and the key of the next page as the gateway wrote
+/// it, if it names one.
 #[derive(Drop)]
 pub struct SequencePage {
     pub sequences: Vec<u64>,
     pub is_last: bool,
+    pub next_key: Option<String>,
 }
 
 /// What an answer tells of packets that are pending, each by its sequence.
@@ -59,7 +61,12 @@ fn read_commitments(alloc: Global, answer: &Object<'_>) -> Result<SequencePage, 
     let is_last = read_is_last(answer)?;
     let items = answer.items(Key::Commitments)?;
     let sequences = read_states(alloc, Segment::Commitments, items)?;
-    Ok(SequencePage { sequences, is_last })
+    let next_key = copied(alloc, next_key(answer))?;
+    Ok(SequencePage {
+        sequences,
+        is_last,
+        next_key,
+    })
 }
 
 #[tactic(auto, using(rb_import_json::proofs::Steps::steps), unfolding(crate::specs::Pending::acknowledged))]

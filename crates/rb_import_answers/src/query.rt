@@ -1,14 +1,16 @@
-//! Other queries that nodes answer, which import doesn't need.
+//! Other queries that nodes answer, which import doesn't need; `want` needs what a node says of itself.
 ghost use Rattle.std.specs.Prelude.{◌≡◌};
 ghost use Rattle.rb_import_json.specs.Fields.{object_view};
 ghost use Rattle.rb_import_answers.specs.Queries.{query_of, query_of_gateway, query_path};
 
+use crate::status::{NodeStatus, status_of};
 use rb_import_json::{Key, Object};
 
 /// A query of CometBFT's RPC or of ibc-go's REST gateway whose answers aren't needed.
-#[derive(Clone, Copy, PartialEq, Eq)]
+#[derive(Clone, Copy)]
 pub enum Query {
-    Status,
+    /// With the node's status, where it can be read.
+    Status(Option<NodeStatus>),
     BlockResults,
     Blockchain,
     Block,
@@ -24,7 +26,7 @@ pub enum Query {
 impl Query {
     /// All of these.
     pub const ALL: [Query; 10] = [
-        Query::Status,
+        Query::Status(None),
         Query::BlockResults,
         Query::Blockchain,
         Query::Block,
@@ -41,7 +43,7 @@ impl Query {
         ensures { result.now ≡ query_path self }
     {
         match self {
-            Query::Status => "/status",
+            Query::Status(_) => "/status",
             Query::BlockResults => "/block_results",
             Query::Blockchain => "/blockchain",
             Query::Block => "/block",
@@ -61,7 +63,7 @@ pub(crate) fn query_of(answer: &Object<'_>) -> Option<Query>
     ensures { result ≡ query_of (object_view answer.now) }
 {
     if answer.has(Key::SyncInfo) {
-        Some(Query::Status)
+        Some(Query::Status(status_of(answer.value)))
     } else if answer.has(Key::TxsResults) {
         Some(Query::BlockResults)
     } else if answer.has(Key::BlockMetas) {

@@ -12,7 +12,7 @@ use Rattle.rb_import_answers.specs.declared.client.ConsensusState.{ConsensusStat
 use Rattle.rb_import_answers.specs.declared.client.TrustLevel.{TrustLevel}
 use Rattle.rb_step.specs.declared.verdict.Verdict.{Verdict}
 use Rattle.rb_want_requests.specs.declared.content.Folders.{Folders}
-use Rattle.rb_want_requests.specs.declared.content.NodeStatus.{NodeStatus}
+use Rattle.rb_import_answers.specs.declared.status.NodeStatus.{NodeStatus}
 use Rattle.rb_want_requests.specs.declared.reason.End.{End}
 use Rattle.rb_want_requests.specs.declared.reason.End.TheVariants as endings
 use Rattle.rb_want_requests.specs.declared.reason.Why.{Why}

@@ -13,7 +13,7 @@ use Rattle.rb_valset.specs.Validator.{Member}
 use Rattle.rb_valset.specs.ValidatorSet.{in_set_order, set_hash}
 use Rattle.rb_want_requests.specs.declared.content.Content.{Content}
 use Rattle.rb_want_requests.specs.declared.content.Content.TheVariants as contents
-use Rattle.rb_want_requests.specs.declared.content.NodeStatus.{NodeStatus}
+use Rattle.rb_import_answers.specs.declared.status.NodeStatus.{NodeStatus}
 use Rattle.rb_want_requests.specs.declared.request.Query.{Query}
 use Rattle.rb_want_requests.specs.declared.request.Query.TheVariants as queries
 use Rattle.rb_want_requests.specs.Answered.{is_part_to, next_part}
@@ -37,7 +37,7 @@ state_in there = fold later_state None there
 
 -- the consensus states of a page that are of this revision number
 abbrev pub states_of : ℕ → Content → List ConsensusState
-states_of revision (contents.ConsensusStates number page key) = filter (λ s. s.revision == revision) page.states.items
+states_of revision (contents.ConsensusStates number page) = filter (λ s. s.revision == revision) page.states.items
 states_of revision _ = []
 
 -- all that the client has stored

@@ -27,7 +27,7 @@ use Rattle.rb_want_requests.specs.Requests.{is_named}
 use Rattle.rb_want_requests.specs.declared.answered.PartKind.TheVariants as kinds
 use Rattle.rb_want_requests.specs.declared.content.Folder.{Folder}
 use Rattle.rb_want_requests.specs.declared.content.Folders.{Folders}
-use Rattle.rb_want_requests.specs.declared.content.NodeStatus.{NodeStatus}
+use Rattle.rb_import_answers.specs.declared.status.NodeStatus.{NodeStatus}
 use Rattle.rb_want_requests.specs.declared.reason.End.{End}
 use Rattle.rb_want_requests.specs.declared.reason.End.TheVariants as endings
 use Rattle.rb_want_requests.specs.declared.reason.Missing.{Missing}

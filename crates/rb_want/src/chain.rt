@@ -11,12 +11,10 @@ ghost use Rattle.rb_want_requests.specs.Requests.{is_named};
 ghost use Rattle.rb_want.specs.Clients.{AreSetsThere, IsHeaderAt, IsSetThere, MakeSet, MayMake, first_page, later_status, members_at, next_page, page_at, page_in, pages_at, status_in};
 
 use rb_base::Height;
-use rb_import_answers::{SignedHeader, ValidatorsPage};
+use rb_import_answers::{NodeStatus, SignedHeader, ValidatorsPage};
 use rb_import_check::{SeenSet, SeenSets};
 use rb_valset::{Validator, ValidatorSet, ValsetError};
-use rb_want_requests::{
-    Content, Folder, NodeStatus, PartKind, Query, first_part, is_named, next_part,
-};
+use rb_want_requests::{Content, Folder, PartKind, Query, first_part, is_named, next_part};
 use std::alloc::{AllocError, Global};
 
 /// How many validators are asked for on a page, the most that nodes give.

@@ -15,7 +15,7 @@ is_state _ = false
 
 -- a page of a client's consensus states
 abbrev pub is_states : Content → Bool
-is_states (contents.ConsensusStates number page key) = true
+is_states (contents.ConsensusStates number page) = true
 is_states _ = false
 
 -- what a node says of itself
@@ -35,7 +35,7 @@ is_page_of height _ = false
 
 -- a page of the commitments of a channel's end (ICS 4)
 abbrev pub is_commitments : Content → Bool
-is_commitments (contents.Commitments number page key) = true
+is_commitments (contents.Commitments number page) = true
 is_commitments _ = false
 
 -- which packets weren't received
@@ -61,8 +61,8 @@ is_part_of kinds.Acknowledgements c = is_acknowledgements c
 -- the number of a page or a part, as its file's name has it
 abbrev pub number_in : Content → Option ℕ
 number_in (contents.Validators number page) = number
-number_in (contents.ConsensusStates number page key) = number
-number_in (contents.Commitments number page key) = number
+number_in (contents.ConsensusStates number page) = number
+number_in (contents.Commitments number page) = number
 number_in (contents.Unreceived number sequences) = number
 number_in (contents.Acknowledgements number sequences) = number
 number_in _ = None
@@ -94,8 +94,8 @@ next_part kind there = unwrap_or (find (λ n. not (has_part kind n there)) (rang
 
 -- the last page of consensus states or of commitments
 abbrev pub is_last : Content → Bool
-is_last (contents.ConsensusStates number page key) = page.is_last
-is_last (contents.Commitments number page key) = page.is_last
+is_last (contents.ConsensusStates number page) = page.is_last
+is_last (contents.Commitments number page) = page.is_last
 is_last _ = false
 
 abbrev pub is_last_to : PartKind → ℕ → Content → Bool

@@ -5,5 +5,5 @@ use Rattle.rb_want_requests.specs.declared.content.Content.TheVariants as conten
 
 -- the sequences of the packets to which the source holds a commitment
 abbrev pub committed_in : Content → List ℕ
-committed_in (contents.Commitments number page key) = page.sequences.items
+committed_in (contents.Commitments number page) = page.sequences.items
 committed_in _ = []

@@ -1,8 +1,8 @@
 //! The keys of pages of consensus states and of commitments.
-ghost use Rattle.std.specs.Prelude.{◌≡◌, find, reverse};
+ghost use Rattle.std.specs.Prelude.{◌≡◌, find, option_map, reverse, string_bytes};
 ghost use Rattle.std.specs.Option.{option_copied};
 ghost use Rattle.rb_want_requests.specs.Answered.{is_part};
-ghost use Rattle.rb_want_requests.specs.Keys.{is_other, key_after, key_in, next_key, other_key};
+ghost use Rattle.rb_want_requests.specs.Keys.{is_other, key_after, key_in, key_unless, next_key, other_key};
 
 use crate::answered::{PartKind, is_part, is_part_of, number_in};
 use crate::content::Content;
@@ -61,14 +61,18 @@ fn key_in(content: &Content) -> Option<&str>
     ensures { option_copied result ≡ key_in content.now }
 {
     match content {
-        Content::ConsensusStates {
-            next_key: Some(key),
-            ..
-        }
-        | Content::Commitments {
-            next_key: Some(key),
-            ..
-        } => Some(key.as_str()),
+        Content::ConsensusStates { page, .. } => key_unless(page.is_last, &page.next_key),
+        Content::Commitments { page, .. } => key_unless(page.is_last, &page.next_key),
+        _ => None,
+    }
+}
+
+/// The key of the page after one that isn't the last.
+fn key_unless(is_last: bool, next_key: &Option<String>) -> Option<&str>
+    ensures { option_copied result ≡ key_unless is_last (option_map string_bytes next_key.now) }
+{
+    match next_key {
+        Some(key) if !is_last => Some(key.as_str()),
         _ => None,
     }
 }

@@ -13,7 +13,7 @@ mod request;
 mod wanted;
 
 pub use answered::{PartKind, first_part, has_all, next_part};
-pub use content::{Content, Folder, Folders, NodeStatus, content_of};
+pub use content::{Content, Folder, Folders, content_of};
 pub use lines::{RequestLine, own_id};
 pub use packet_lines::SEQUENCES_A_PART;
 pub use reason::{End, Missing, PathEnd, Why};

@@ -1,9 +1,7 @@
 use crate::same::assert_same;
 use rb_base::{ChainId, ClientId, Height, PathId};
 use rb_script_types::{ChannelEnd, EndId};
-use rb_want_requests::{
-    Content, Folder, Folders, NodeStatus, Owner, Query, Request, RequestLine, content_of,
-};
+use rb_want_requests::{Content, Folder, Folders, Owner, Query, Request, RequestLine, content_of};
 use std::alloc::{AllocError, Global};
 use std::process::Abort;
 use std::test::Fail;
@@ -71,9 +69,12 @@ const FILES: &[(&str, &str)] = &[
     ),
 ];
 
-fn status_word(alloc: Global, status: &NodeStatus) -> Result<String, AllocError> {
-    let latest = status.latest;
-    match &status.network {
+fn status_word(
+    alloc: Global,
+    latest: Height,
+    network: &Option<ChainId>,
+) -> Result<String, AllocError> {
+    match network {
         Some(network) => format!(in alloc; "status {latest} {network}"),
         None => format!(in alloc; "status {latest}"),
     }
@@ -121,12 +122,10 @@ fn plain_word(content: &Content) -> &'static str {
 
 fn word_of(alloc: Global, content: &Content) -> Result<String, AllocError> {
     match content {
-        Content::ConsensusStates { page, next_key, .. } => {
-            states_word(alloc, page.is_last, next_key)
-        }
-        Content::Status(status) => status_word(alloc, status),
-        Content::Commitments { page, next_key, .. } => {
-            commitments_word(alloc, page.sequences.len(), page.is_last, next_key)
+        Content::ConsensusStates { page, .. } => states_word(alloc, page.is_last, &page.next_key),
+        Content::Status(status) => status_word(alloc, status.latest, &status.network),
+        Content::Commitments { page, .. } => {
+            commitments_word(alloc, page.sequences.len(), page.is_last, &page.next_key)
         }
         Content::Unreceived { sequences, .. } => {
             counted_word(alloc, "unreceived", sequences.len())
