@@ -1,3 +1,4 @@
 pub mod Lefts
 pub mod Wholes
 pub mod Files
+pub mod Told

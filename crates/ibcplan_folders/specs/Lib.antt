@@ -1,3 +1,4 @@
 pub mod LeftOut
 pub mod Files
 pub mod Messages
+pub mod Packets

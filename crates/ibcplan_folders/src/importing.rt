@@ -1,6 +1,6 @@
 //! Importing: the files of a folder are read, and the script that they make is written, without the clients and the
 //! paths whose answers are refused.
-ghost use Rattle.std.specs.Prelude.{◌≡◌, IfOk, MatchOption, is_some, slice_get, string_bytes, true};
+ghost use Rattle.std.specs.Prelude.{◌≡◌, ◌∷◌, ◌++◌, [], IfOk, MatchOption, OnOk, is_some, slice_get, string_bytes, true};
 ghost use Rattle.sha2.specs.Sha256.{sha256};
 ghost use Rattle.rb_import_answers.specs.Answers.{answer_view, told_in, verdicts_file, without_votes};
 ghost use Rattle.rb_import_answers.specs.Revisions.{IsRevision};
@@ -303,7 +303,9 @@ fn is_of_answers(error: &ProgramError<'_>) -> bool {
     }
 }
 
-pub fn add<'a, T: Drop>(items: &mut Vec<T>, item: T) -> Result<(), ProgramError<'a>> {
+pub fn add<'a, T: Drop>(items: &mut Vec<T>, item: T) -> Result<(), ProgramError<'a>>
+    ensures { OnOk result (items.new.items ≡ items.old.items ++ item ∷ []) }
+{
     match items.push(item) {
         Ok(()) => Ok(()),
         Err(_) => Err(ProgramError::NoMemory),

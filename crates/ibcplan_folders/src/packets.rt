@@ -1,4 +1,12 @@
 //! The packet messages of batches: the folders of paths are read, and what they hold of proofs.
+ghost use Rattle.std.specs.Prelude.{◌≡◌, [], All, IfOk, IfSome, IsSomeAnd, OnOk, Some, map, slice_index_or, string_bytes};
+ghost use Rattle.std.specs.List.{AllZip};
+ghost use Rattle.rb_import_answers.specs.Revisions.{IsRevision};
+ghost use Rattle.rb_packet_messages.specs.Ends.{ends_in};
+ghost use Rattle.rb_packet_messages.specs.Facts.{AreFactsIn, answer_view, facts_view};
+ghost use Rattle.rb_packet_messages.specs.Messages.{due_view};
+ghost use Rattle.ibcplan_folders.specs.Packets.{ArePacketTexts, IsDue, IsTextOf, StandFor, StandsFor, WasRead, WereRead, answers_at};
+
 use crate::file_system::FileSystem;
 use crate::importing::{add, names_in, path_in, read_bytes};
 use ibcplan_cli::{ProgramError, shown_text};
@@ -27,6 +35,13 @@ pub struct PacketTexts {
     pub left_out: String,
 }
 
+/// The lines of the proofs that are asked for, and those of what is left out.
+#[derive(Drop)]
+struct Lines {
+    wanted: String,
+    left_out: String,
+}
+
 /// What the messages of a batch are made of: the folder of the answers, the configuration, what the folder of each path
 /// tells, the batch, and the account that signs.
 #[derive(Clone, Copy)]
@@ -38,7 +53,7 @@ struct Source<'s> {
     signer: &'s str,
 }
 
-/// A message of a batch: of which path it is, and what is known of its packet.
+/// What is known of the packet of a message, and the app hash that its proof is judged by.
 #[derive(Drop)]
 struct Known {
     ends: Ends,
@@ -54,11 +69,9 @@ enum ProofAnswer {
     Missing,
 }
 
-/// What comes of a message.
+/// Why a message isn't made.
 #[derive(Drop)]
-enum Outcome {
-    /// Its text.
-    Made(String),
+enum Unmade {
     /// Its proof is asked for.
     Wanted(ProofRequest),
     /// It is left out, by what stands in a file or a folder.
@@ -79,30 +92,53 @@ pub fn packet_texts<'a, R: FileSystem>(
     config: &Config,
     senders: &[Option<Sender>],
     batches: &[PlannedBatch],
-) -> Result<PacketTexts, ProgramError<'a>> {
-    let answers = path_answers(rt, folder, config.paths.as_slice(), senders, batches)?;
-    let mut packets = PacketTexts {
-        texts: Vec::new(rt.alloc()),
+) -> Result<PacketTexts, ProgramError<'a>>
+    ensures { IfOk result (λ packets. ArePacketTexts config.now senders.now batches.now packets.texts.items) }
+{
+    let read = path_answers(rt, folder, config.paths.as_slice(), senders, batches)?;
+    let answers = read.as_slice();
+    let mut texts = Vec::new(rt.alloc());
+    let mut lines = Lines {
         wanted: String::new(rt.alloc()),
         left_out: String::new(rt.alloc()),
     };
     for batch in batches {
-        let texts = match sender_to(senders, batch.host) {
-            Some(sender) => {
-                let source = Source {
-                    folder,
-                    config,
-                    answers: answers.as_slice(),
-                    batch,
-                    signer: sender.signer.as_str(),
-                };
-                batch_texts(rt, &source, &mut packets)?
-            }
-            None => Vec::new(rt.alloc()),
-        };
-        add(&mut packets.texts, texts)?;
+        let own = texts_of(rt, folder, config, senders, answers, batch, &mut lines)?;
+        add(&mut texts, own)?;
     }
-    Ok(packets)
+    let Lines { wanted, left_out } = lines;
+    Ok(PacketTexts {
+        texts,
+        wanted,
+        left_out,
+    })
+}
+
+/// The texts of the packet messages of a batch; none where nobody sends to its host.
+fn texts_of<'a, R: FileSystem>(
+    rt: &R,
+    folder: &str,
+    config: &Config,
+    senders: &[Option<Sender>],
+    answers: &[Vec<PathAnswer>],
+    batch: &PlannedBatch,
+    lines: &mut Lines,
+) -> Result<Vec<Option<String>>, ProgramError<'a>>
+    ensures { IfOk result (StandFor config.now senders.now answers.now batch.now) }
+{
+    match sender_to(senders, batch.host) {
+        Some(sender) => {
+            let source = Source {
+                folder,
+                config,
+                answers,
+                batch,
+                signer: sender.signer.as_str(),
+            };
+            batch_texts(rt, &source, lines)
+        }
+        None => Ok(Vec::new(rt.alloc())),
+    }
 }
 
 /// What the folder of each path tells of packets; nothing of a path that no message is of.
@@ -112,14 +148,13 @@ fn path_answers<'a, R: FileSystem>(
     paths: &[PathConfig],
     senders: &[Option<Sender>],
     batches: &[PlannedBatch],
-) -> Result<Vec<Vec<PathAnswer>>, ProgramError<'a>> {
+) -> Result<Vec<Vec<PathAnswer>>, ProgramError<'a>>
+    ensures { IfOk result (λ answers. All WereRead answers.items) }
+{
     let mut answers = Vec::new(rt.alloc());
     for (place, path) in paths.iter().enumerate() {
-        let told = if is_sent_on(senders, batches, place) {
-            answers_on(rt, folder, path.id.as_str())?
-        } else {
-            Vec::new(rt.alloc())
-        };
+        let is_needed = is_sent_on(senders, batches, place);
+        let told = answers_on(rt, folder, path.id.as_str(), is_needed)?;
         add(&mut answers, told)?;
     }
     Ok(answers)
@@ -133,61 +168,102 @@ fn is_sent_on(senders: &[Option<Sender>], batches: &[PlannedBatch], path: usize)
     })
 }
 
-/// The answers to `/tx_search` in the folder of a path, in the order of their files' names.
+/// The answers to `/tx_search` in the folder of a path, in the order of their files' names; none where they aren't needed.
 fn answers_on<'a, R: FileSystem>(
     rt: &R,
     folder: &str,
     id: &str,
-) -> Result<Vec<PathAnswer>, ProgramError<'a>> {
+    is_needed: bool,
+) -> Result<Vec<PathAnswer>, ProgramError<'a>>
+    ensures { IfOk result WereRead }
+{
+    let mut answers = Vec::new(rt.alloc());
+    if !is_needed {
+        return Ok(answers);
+    }
     let path = path_in(rt.alloc(), folder, id)?;
     let names = match names_in(rt, path.as_str()) {
         Ok(names) => names,
         Err(error) => return Err(ProgramError::of_file(rt.alloc(), path.as_str(), error)),
     };
-    let mut answers = Vec::new(rt.alloc());
     for name in &names {
         let file = path_in(rt.alloc(), path.as_str(), name.as_str())?;
-        let bytes = match read_bytes(rt, file.as_str()) {
-            Ok(bytes) => bytes,
-            Err(error) => return Err(ProgramError::of_file(rt.alloc(), file.as_str(), error)),
-        };
-        match read_path_answer(rt.alloc(), bytes.as_slice()) {
-            Ok(Some(answer)) => add(&mut answers, answer)?,
-            Ok(None) => {}
-            Err(_) => return Err(ProgramError::NoMemory),
-        }
+        add_answer(rt, file.as_str(), &mut answers)?;
     }
     Ok(answers)
 }
 
-/// The texts of the packet messages of a batch; what else comes of them is told. On an ORDERED path nothing is made behind a
-/// message of the same kind that is left out.
+/// Adds the answer in a file, if it is one to `/tx_search`.
+fn add_answer<'a, R: FileSystem>(
+    rt: &R,
+    file: &str,
+    answers: &mut Vec<PathAnswer>,
+) -> Result<(), ProgramError<'a>>
+    ensures { OnOk result (WereRead answers.old → WereRead answers.new) }
+{
+    match answer_in(rt, file)? {
+        Some(answer) => add(answers, answer),
+        None => Ok(()),
+    }
+}
+
+/// The answer in a file, if it is one to `/tx_search`.
+fn answer_in<'a, R: FileSystem>(rt: &R, file: &str) -> Result<Option<PathAnswer>, ProgramError<'a>>
+    ensures { IfOk result (λ read. IfSome read WasRead) }
+{
+    let bytes = match read_bytes(rt, file) {
+        Ok(bytes) => bytes,
+        Err(error) => return Err(ProgramError::of_file(rt.alloc(), file, error)),
+    };
+    match read_path_answer(rt.alloc(), bytes.as_slice()) {
+        Ok(read) => Ok(read),
+        Err(_) => Err(ProgramError::NoMemory),
+    }
+}
+
+/// The texts of the packet messages of a batch; what else comes of them is told.
 fn batch_texts<'a, R: FileSystem>(
     rt: &R,
     source: &Source<'_>,
-    packets: &mut PacketTexts,
-) -> Result<Vec<Option<String>>, ProgramError<'a>> {
+    lines: &mut Lines,
+) -> Result<Vec<Option<String>>, ProgramError<'a>>
+    ensures { IfOk result (λ texts. AllZip (StandsFor source.now.config.now source.now.batch.now source.now.answers.now source.now.signer.now) source.now.batch.now.messages.items texts.items) }
+{
     let mut texts = Vec::new(rt.alloc());
-    let mut stops: Vec<Stop> = Vec::new(rt.alloc());
+    let mut stops = Vec::new(rt.alloc());
     for message in &source.batch.messages {
-        let Some(path) = source.config.paths.get(message.path()) else {
-            add(&mut texts, None)?;
-            continue;
-        };
-        let kind = message.packet().kind;
-        let outcome = if is_behind(stops.as_slice(), message.path(), kind) {
-            left_out(rt.alloc(), source, path, None, PacketError::Behind)?
-        } else {
-            outcome_of(rt, source, path, message)?
-        };
-        if matches!(outcome, Outcome::LeftOut { .. }) && path.order == Order::Ordered {
-            let path = message.path();
-            add(&mut stops, Stop { path, kind })?;
-        }
-        let text = told(rt.alloc(), source, path, message, outcome, packets)?;
+        let text = text_for(rt, source, message, &mut stops, lines)?;
         add(&mut texts, text)?;
     }
     Ok(texts)
+}
+
+/// The text of a packet message; what else comes of it is told. On an ORDERED path nothing is made behind a message of the
+/// same kind that is left out.
+fn text_for<'a, R: FileSystem>(
+    rt: &R,
+    source: &Source<'_>,
+    message: &Message,
+    stops: &mut Vec<Stop>,
+    lines: &mut Lines,
+) -> Result<Option<String>, ProgramError<'a>>
+    ensures { IfOk result (StandsFor source.now.config.now source.now.batch.now source.now.answers.now source.now.signer.now message.now) }
+{
+    let Some(path) = source.config.paths.get(message.path()) else {
+        return Ok(None);
+    };
+    match outcome_of(rt, source, path, message, stops.as_slice())? {
+        Ok(text) => Ok(Some(text)),
+        Err(unmade) => {
+            if matches!(unmade, Unmade::LeftOut { .. }) && path.order == Order::Ordered {
+                let kind = message.packet().kind;
+                let path = message.path();
+                add(stops, Stop { path, kind })?;
+            }
+            tell(source, path, message, &unmade, lines)?;
+            Ok(None)
+        }
+    }
 }
 
 /// Whether no more messages of a kind are made of the path at a place.
@@ -197,30 +273,28 @@ fn is_behind(stops: &[Stop], path: usize, kind: Kind) -> bool {
         .any(|stop| stop.path == path && stop.kind == kind)
 }
 
-/// Tells what comes of a message, and answers its text, if it has one.
-fn told<'a>(
-    alloc: Global,
+/// Tells why a message isn't made.
+fn tell<'a>(
     source: &Source<'_>,
     path: &PathConfig,
     message: &Message,
-    outcome: Outcome,
-    packets: &mut PacketTexts,
-) -> Result<Option<String>, ProgramError<'a>> {
+    unmade: &Unmade,
+    lines: &mut Lines,
+) -> Result<(), ProgramError<'a>> {
     let id = path.id.as_str();
-    let added = match outcome {
-        Outcome::Made(text) => return Ok(Some(text)),
-        Outcome::Wanted(request) => {
+    let added = match unmade {
+        Unmade::Wanted(request) => {
             let chain = id_of(source.config.chains.as_slice(), source.batch.chain);
             let query = request.query.as_str();
             let file = request.file.as_str();
-            let text = &mut packets.wanted;
+            let text = &mut lines.wanted;
             writeln!(text, "get {chain} {query} {id}/proofs/{file}")
         }
-        Outcome::LeftOut { place, error } => {
+        Unmade::LeftOut { place, error } => {
             let kind = kind_word(message.packet().kind);
             let sequence = message.packet().sequence;
             let advice = error.advice();
-            let text = &mut packets.left_out;
+            let text = &mut lines.left_out;
             writeln!(
                 text,
                 "left out {id} {kind} {sequence}: {error}\n{place}: {advice}"
@@ -228,7 +302,7 @@ fn told<'a>(
         }
     };
     match added {
-        Ok(()) => Ok(None),
+        Ok(()) => Ok(()),
         Err(_) => Err(ProgramError::NoMemory),
     }
 }
@@ -242,18 +316,57 @@ fn kind_word(kind: Kind) -> &'static str {
     }
 }
 
-/// What comes of a message of a path.
+/// The text of a message of a path, or why it isn't made: none is made behind one of its kind that is left out.
+#[tactic(auto, using(crate::proofs::Told::proven_text))]
 fn outcome_of<'a, R: FileSystem>(
     rt: &R,
     source: &Source<'_>,
     path: &PathConfig,
     message: &Message,
-) -> Result<Outcome, ProgramError<'a>> {
+    stops: &[Stop],
+) -> Result<Result<String, Unmade>, ProgramError<'a>>
+    ensures { IfOk result (λ outcome. IfOk outcome (λ text. IsTextOf source.now.config.now source.now.batch.now (answers_at source.now.answers.now message.now.path) source.now.signer.now path.now message.now (string_bytes text))) }
+{
+    if is_behind(stops, message.path(), message.packet().kind) {
+        return not_made(rt.alloc(), source, path, None, PacketError::Behind);
+    }
     let known = match known_of(rt.alloc(), source, path, message) {
         Ok(known) => known,
-        Err(error) => return left_out(rt.alloc(), source, path, None, error),
+        Err(error) => return not_made(rt.alloc(), source, path, None, error),
     };
-    let due = DueMessage {
+    let due = due_of(source, path, message, &known);
+    let Ok(request) = request_of(rt.alloc(), &due) else {
+        return Err(ProgramError::NoMemory);
+    };
+    let file = request.file.as_str();
+    match proof_answer(rt, source.folder, path.id.as_str(), file)? {
+        ProofAnswer::Missing => Ok(Err(Unmade::Wanted(request))),
+        ProofAnswer::Refused => {
+            let error = PacketError::NodeRefused;
+            not_made(rt.alloc(), source, path, Some(file), error)
+        }
+        ProofAnswer::There(bytes) => {
+            match message_text(rt.alloc(), &due, source.signer, bytes.as_slice()) {
+                Ok(text) => Ok(Ok(text)),
+                Err(error) => not_made(rt.alloc(), source, path, Some(file), error),
+            }
+        }
+    }
+}
+
+/// A message of a batch on a path that is due, by what is known of its packet.
+fn due_of<'k>(
+    source: &Source<'_>,
+    path: &PathConfig,
+    message: &Message,
+    known: &'k Known,
+) -> DueMessage<'k>
+    requires ends { ends_in path.now.channel ≡ Some known.now.ends }
+    requires facts { AreFactsIn message.now.packet.kind known.now.ends message.now.packet.sequence (map answer_view (answers_at source.now.answers.now message.now.path)) (facts_view known.now.facts) }
+    requires app_hash { IsSomeAnd source.now.batch.now.proof_record (λ r. known.now.app_hash ≡ r.root) }
+    ensures { IsDue source.now.config.now source.now.batch.now (answers_at source.now.answers.now message.now.path) path.now message.now (due_view result) }
+{
+    DueMessage {
         kind: message.packet().kind,
         order: path.order,
         ends: known.ends,
@@ -261,41 +374,24 @@ fn outcome_of<'a, R: FileSystem>(
         facts: &known.facts,
         app_hash: known.app_hash,
         proof_height: proof_height(source.config.chains.as_slice(), source.batch),
-    };
-    let Ok(request) = request_of(rt.alloc(), &due) else {
-        return Err(ProgramError::NoMemory);
-    };
-    match proof_answer(rt, source.folder, path.id.as_str(), request.file.as_str())? {
-        ProofAnswer::Missing => Ok(Outcome::Wanted(request)),
-        ProofAnswer::Refused => {
-            let file = Some(request.file.as_str());
-            left_out(rt.alloc(), source, path, file, PacketError::NodeRefused)
-        }
-        ProofAnswer::There(bytes) => {
-            match message_text(rt.alloc(), &due, source.signer, bytes.as_slice()) {
-                Ok(text) => Ok(Outcome::Made(text)),
-                Err(error) => {
-                    let file = Some(request.file.as_str());
-                    left_out(rt.alloc(), source, path, file, error)
-                }
-            }
-        }
     }
 }
 
 /// That a message is left out, by what stands in a file of a path's proofs, or else in the path's folder.
-fn left_out<'a>(
+fn not_made<'a>(
     alloc: Global,
     source: &Source<'_>,
     path: &PathConfig,
     file: Option<&str>,
     error: PacketError,
-) -> Result<Outcome, ProgramError<'a>> {
+) -> Result<Result<String, Unmade>, ProgramError<'a>>
+    ensures { IfOk result (λ outcome. IfOk outcome (λ _. ⊥)) }
+{
     if error == PacketError::NoMemory {
         return Err(ProgramError::NoMemory);
     }
     match place_of(alloc, source.folder, path.id.as_str(), file) {
-        Ok(place) => Ok(Outcome::LeftOut { place, error }),
+        Ok(place) => Ok(Err(Unmade::LeftOut { place, error })),
         Err(_) => Err(ProgramError::NoMemory),
     }
 }
@@ -320,15 +416,16 @@ fn known_of(
     source: &Source<'_>,
     path: &PathConfig,
     message: &Message,
-) -> Result<Known, PacketError> {
+) -> Result<Known, PacketError>
+    ensures ends { IfOk result (λ known. ends_in path.now.channel ≡ Some known.ends) }
+    ensures facts { IfOk result (λ known. AreFactsIn message.now.packet.kind known.ends message.now.packet.sequence (map answer_view (answers_at source.now.answers.now message.now.path)) (facts_view known.facts)) }
+    ensures app_hash { IfOk result (λ known. IsSomeAnd source.now.batch.now.proof_record (λ r. known.app_hash ≡ r.root)) }
+{
     let Some(ends) = ends_of(path.channel) else {
         return Err(PacketError::NoChannel);
     };
-    let answers = match source.answers.get(message.path()) {
-        Some(answers) => answers.as_slice(),
-        None => &[],
-    };
     let packet = message.packet();
+    let answers = answers_at(source.answers, message.path());
     let facts = facts_of(alloc, answers, &ends, packet.kind, packet.sequence.get())?;
     match &source.batch.proof_record {
         Some(record) => Ok(Known {
@@ -340,8 +437,21 @@ fn known_of(
     }
 }
 
+/// What was read in the folder of the path at a place.
+fn answers_at(answers: &[Vec<PathAnswer>], place: usize) -> &[PathAnswer]
+    ensures { result.now ≡ answers_at answers.entry.now place }
+{
+    match answers.get(place) {
+        Some(own) => own.as_slice(),
+        None => &[],
+    }
+}
+
 /// The height that the proofs of a batch are made for, with the revision of the chain that its client tracks.
-fn proof_height(chains: &[ChainId], batch: &PlannedBatch) -> RevisionHeight {
+fn proof_height(chains: &[ChainId], batch: &PlannedBatch) -> RevisionHeight
+    ensures height { result.height ≡ batch.now.proof }
+    ensures revision { IsRevision (slice_index_or chains.now batch.now.chain []) result.revision }
+{
     RevisionHeight {
         revision: revision_of(id_of(chains, batch.chain)),
         height: batch.proof.get(),
