@@ -1,6 +1,7 @@
 """The folder of answers that the proved program reads (docs/IMPORT.md). Final headers and validator sets stay from round to round; so do transactions with
 packets that are pending, a client's consensus states while its state is the same, and where a chain stood for a while. All other answers are of one round."""
 import contextlib
+import fnmatch
 import os
 import pathlib
 import threading
@@ -97,6 +98,14 @@ class AnswerFolder:
         self.file(name).unlink(missing_ok=True)
         with self.lock:
             return self.origins.pop(name, None)
+
+    def drop_headers_of(self, source: Source) -> None:
+        """Takes away the headers and the validators that a source gave."""
+        with self.lock:
+            given = [name for name, origin in self.origins.items() if origin is source]
+        for name in given:
+            if fnmatch.fnmatchcase(name, f"{source.chain}/{HEADERS}"):
+                self.drop(name)
 
     def drop_all(self, place: str, names: str) -> None:
         """Takes away the files of a chain, a client or a path whose names have a form."""

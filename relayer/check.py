@@ -3,11 +3,11 @@ import dataclasses
 import enum
 
 from relayer.clock import Clock
-from relayer.config import Chain, Client, Config, End
+from relayer.config import Chain, Client, Config
 from relayer.node import Kind, Refused, Source, SourceFailure
 from relayer.send import Failed, account_of
 from relayer.sources import Sources, Standing, Unavailable, standing_in
-from relayer.values import Fields, nanoseconds, stamp_of
+from relayer.values import Fields, is_tendermint, nanoseconds, seconds_of, stamp_of
 from relayer.words import Log, shown
 
 LAG_BLOCKS = 20
@@ -53,8 +53,11 @@ class Check:
                 self.account(chain)
         for client in self.config.clients:
             self.client(client)
-        for end in dict.fromkeys(end for path in self.config.paths for end in (path.source, path.dest)):
-            self.channel(end)
+        for chain_id, port, channel in dict.fromkeys(end for path in self.config.paths for end in path.ends):
+            about = f"{chain_id} {port}/{channel}"
+            if answer := self.asked(chain_id, about, f"/ibc/core/channel/v1/channels/{channel}/ports/{port}"):
+                state = answer.object("channel").text("state")
+                self.add(Mark.GOOD if state == "STATE_OPEN" else Mark.BAD, about, "open" if state == "STATE_OPEN" else f"its state is {shown(state or '-', 40)}")
         self.sources.close()
         return self.lines
 
@@ -69,84 +72,66 @@ class Check:
             self.add(mark, about, str(error))
             return None
 
-    # ---- chains
-
     def nodes(self, chain: Chain) -> None:
-        found: list[tuple[Source, Standing]] = []
+        """A line for each node of a chain; the highest tells where the chain stands."""
+        found: dict[str, Standing] = {}
         for source in self.sources.lists[chain.id, Kind.NODE]:
-            if (status := self.asked(source, source.address, "/status")) is None:
-                continue
-            standing = standing_in(status)
-            if standing is None or standing.chain != chain.id:
-                self.add(Mark.BAD, source.address, "it is no node of this chain" if standing else "its status can't be read")
+            if status := self.asked(source, source.address, "/status"):
+                standing = standing_in(status)
+                if flaw := self.sources.flaw(chain.id, standing):
+                    self.add(Mark.BAD, source.address, flaw)
+                elif standing:
+                    found[source.address] = standing
+        for address, standing in found.items():
+            top = self.standings[chain.id] = max(found.values(), key=lambda each: each.height)
+            words = f"{chain.id} at height {standing.height}, block of {stamp_of(standing.nanos)}"
+            if top.height - standing.height > LAG_BLOCKS:
+                self.add(Mark.BAD, address, f"{words}, {top.height - standing.height} blocks behind another node")
+            elif self.sources.is_still(standing):
+                self.add(Mark.BAD, address, f"{words}, standing still by this system's time")
+            elif not standing.has_index:
+                self.add(Mark.WARNING, address, f"{words}, without an index of transactions: inclusions are known by the clients' states alone")
             else:
-                found.append((source, standing))
-        top = max((standing.height for _, standing in found), default=0)
-        for source, standing in found:
-            self.add(*self.node_line(chain, source, standing, top))
-            if standing.height == top:
-                self.standings[chain.id] = standing
-
-    def node_line(self, chain: Chain, source: Source, standing: Standing, top: int) -> tuple[Mark, str, str]:
-        words = f"{chain.id} at height {standing.height}, block of {stamp_of(standing.nanos)}"
-        if standing.is_catching_up:
-            return Mark.BAD, source.address, f"{words}, still catching up"
-        if top - standing.height > LAG_BLOCKS:
-            return Mark.BAD, source.address, f"{words}, {top - standing.height} blocks behind another node"
-        if self.sources.is_still(standing):
-            return Mark.BAD, source.address, f"{words}, standing still by this system's time"
-        if standing.nanos > self.clock.now() + self.config.window_nanos:
-            return Mark.BAD, source.address, f"{words}, ahead of this system's time"
-        if not standing.has_index:
-            return Mark.WARNING, source.address, f"{words}, without an index of transactions: inclusions are known by the clients' states alone"
-        return Mark.GOOD, source.address, words
+                self.add(Mark.GOOD, address, words)
 
     def account(self, chain: Chain) -> None:
         """The balance of the signer, whose address the chain's program tells."""
-        if chain.sender is None:
+        if not chain.program:
             self.add(Mark.WARNING, chain.id, "no program signs, so that nothing is sent")
             return
-        about = f"{chain.id} account {chain.sender.signer}"
+        about = f"{chain.id} account {chain.signer}"
         try:
-            address = account_of(chain.sender)
+            answer = self.asked(chain.id, about, f"/cosmos/bank/v1beta1/balances/{account_of(chain)}", Mark.WARNING)
         except Failed as failed:
             self.add(Mark.WARNING, about, str(failed))
             return
-        if (answer := self.asked(chain.id, about, f"/cosmos/bank/v1beta1/balances/{address}", Mark.WARNING)) is not None:
+        if answer is not None:
             coins = [f"{coin.text('amount')}{coin.text('denom')}" for coin in answer.objects("balances")]
             self.add(Mark.GOOD if coins else Mark.BAD, about, " ".join(coins[:5]) or "it has no coins")
 
-    # ---- clients and channels
-
     def client(self, client: Client) -> None:
-        answer = self.asked(client.host, client.name, f"/ibc/core/client/v1/client_states/{client.id}")
-        if answer is None:
-            return
-        state, height = answer.object("client_state"), answer.object("client_state").object("latest_height")
-        place = f"revision/{height.number('revision_number')}/height/{height.number('revision_height')}"
-        if (latest := self.asked(client.host, client.name, f"/ibc/core/client/v1/consensus_states/{client.id}/{place}")) is not None:
-            self.add(*client_line(client, state, latest.object("consensus_state"), self.standings.get(client.host)))
-
-    def channel(self, end: End) -> None:
-        about = f"{end.chain} {end.port}/{end.channel}"
-        if (answer := self.asked(end.chain, about, f"/ibc/core/channel/v1/channels/{end.channel}/ports/{end.port}")) is not None:
-            state = answer.object("channel").text("state") or "-"
-            self.add(Mark.GOOD if state == "STATE_OPEN" else Mark.BAD, about, "open" if state == "STATE_OPEN" else f"its state is {shown(state, 40)}")
+        if answer := self.asked(client.host, client.name, f"/ibc/core/client/v1/client_states/{client.id}"):
+            state = answer.object("client_state")
+            height = state.object("latest_height")
+            place = f"revision/{height.number('revision_number')}/height/{height.number('revision_height')}"
+            if latest := self.asked(client.host, client.name, f"/ibc/core/client/v1/consensus_states/{client.id}/{place}"):
+                mark, words = client_words(client, state, latest.object("consensus_state"), self.standings.get(client.host))
+                self.add(mark, client.name, words)
 
 
-def client_line(client: Client, state: Fields, latest: Fields, host: Standing | None) -> tuple[Mark, str, str]:
-    """The line on a client by its state, its latest consensus state and where its host stands."""
-    if not (state.text("@type") or "").endswith("tendermint.v1.ClientState"):
-        return Mark.BAD, client.name, "it is no Tendermint client"
+def client_words(client: Client, state: Fields, latest: Fields, host: Standing | None) -> tuple[Mark, str]:
+    """How a client is by its state, its latest consensus state and where its host stands."""
+    if not is_tendermint(state):
+        return Mark.BAD, "it is no Tendermint client"
     if state.text("chain_id") != client.of:
-        return Mark.BAD, client.name, f"it tracks {shown(state.text('chain_id') or '-', 64)}, and not {client.of}"
+        return Mark.BAD, f"it tracks {shown(state.text('chain_id') or '-', 64)}, and not {client.of}"
     if state.object("frozen_height").number("revision_height"):
-        return Mark.BAD, client.name, "it is frozen"
-    stamp, period = nanoseconds(latest.text("timestamp") or ""), (state.text("trusting_period") or "").removesuffix("s")
-    if stamp is None or not (period.isascii() and period.isdigit()) or host is None:
-        return Mark.WARNING, client.name, "when it expires isn't known"
-    length = int(period[:12]) * 10**9
-    if stamp + length <= host.nanos:
-        return Mark.BAD, client.name, f"it has expired, {stamp_of(stamp + length)}"
-    mark = Mark.WARNING if stamp + length - host.nanos < min(SOON, length // 4) else Mark.GOOD
-    return mark, client.name, f"height {state.object('latest_height').number('revision_height')}, expires {stamp_of(stamp + length)}"
+        return Mark.BAD, "it is frozen"
+    stamp, length = nanoseconds(latest.text("timestamp")), seconds_of(state.text("trusting_period")) * 10**9
+    if stamp is None or not length or host is None:
+        return Mark.WARNING, "when it expires isn't known"
+    expiry = stamp + length
+    if expiry <= host.nanos:
+        return Mark.BAD, f"it has expired, {stamp_of(expiry)}"
+    mark = Mark.WARNING if expiry - host.nanos < min(SOON, length // 4) else Mark.GOOD
+    return mark, f"height {state.object('latest_height').number('revision_height')}, expires {stamp_of(expiry)}"

@@ -7,7 +7,7 @@ from collections.abc import Iterable
 
 from relayer.answers import HEADERS, AnswerFolder, write_whole
 from relayer.config import Config
-from relayer.node import Answer, Kind, Refused
+from relayer.node import Answer, Kind, Refused, SourceFailure
 from relayer.planner import Planner, Request, requests_in
 from relayer.sources import Sources, Standing, Unavailable, standing_in
 from relayer.values import Fields, fields_in
@@ -26,7 +26,7 @@ class Fetcher:
 
     def __init__(self, planner: Planner, sources: Sources, folder: AnswerFolder, config: Config, log: Log) -> None:
         self.planner, self.sources, self.folder, self.log, self.window_nanos = planner, sources, folder, log, config.window_nanos
-        self.verifier = Verifier(folder, log) if config.is_verified else None
+        self.verifier = Verifier(folder, log) if config.verify else None
         self.standings: dict[str, Standing] = {}
         self.later: dict[str, Answer] = {}  # where chains stand, if the header of an earlier standing leads the fetch
         self.down: set[tuple[str, Kind]] = set()
@@ -34,7 +34,8 @@ class Fetcher:
         self.floors: dict[str, int] = {}  # of chains: the block that the answers of gateways have to know
         self.aside: set[str] = set()  # searches that nobody is asked for: without them `import` leaves packets out
 
-    def begin_round(self, chains: list[str]) -> None:
+    def begin_round(self, chains: list[str], floors: dict[str, int]) -> None:
+        self.floors = dict(floors)
         self.down.clear()
         self.refused.clear()
         self.standings.clear()
@@ -134,13 +135,11 @@ class Fetcher:
         name = f"{request.folder}/{request.name}"
         try:
             if request.kind in PAGED and request.number > MOST_PAGES:
-                raise Refused("more pages than a query may have")
+                self.leave_pages(request)
+                return
             if name in self.aside:
                 raise Refused("this packet is set aside")
-            found = self.sources.ask(request.chain, kind_of(request), request.path)
-            while kind_of(request) is Kind.GATEWAY and block_of(found.fields) < self.floors.get(request.chain, 0):
-                self.sources.fail(found.source, f"it is behind block {self.floors[request.chain]}, which included a transaction")
-                found = self.sources.ask(request.chain, kind_of(request), request.path)
+            found = self.sources.ask(request.chain, kind_of(request), request.path, functools.partial(self.is_whole, request))
         except Refused as refused:
             self.refuse(name, str(refused))
         except Unavailable as error:
@@ -151,6 +150,13 @@ class Fetcher:
             if request.kind == "client_state":
                 self.folder.drop_old_pages(request.folder, found)
             self.folder.save(request.file, found)
+
+    def is_whole(self, request: Request, answer: Answer) -> bool:
+        """Whether an answer needs no other source's: a search that finds nothing does. A gateway is left that doesn't know of a block with a transaction."""
+        floor = self.floors.get(request.chain, 0)
+        if kind_of(request) is Kind.GATEWAY and block_of(answer.fields) < floor:
+            raise SourceFailure(f"it is behind block {floor}, which included a transaction")
+        return not SEARCH.fullmatch(request.file) or bool(answer.fields.objects("txs"))
 
     def refuse(self, name: str, words: str) -> None:
         """Notes that there is no answer, so that it isn't asked for again."""
@@ -166,18 +172,24 @@ class Fetcher:
 
     # ---- doubts
 
+    def leave_pages(self, request: Request) -> None:
+        """Leaves a gateway whose pages of a query don't end; another one is asked from the first page on."""
+        self.doubt(Doubt(f"{request.folder}/{request.kind}-{MOST_PAGES}.json", f"more than {MOST_PAGES} pages"))
+        self.folder.drop_all(request.folder, f"{request.kind}-*")
+
     def check(self, chain: str) -> None:
         """Verifies new commits of a chain; what can't be is dropped with its source."""
         for doubt in self.verifier.check(chain) if self.verifier else []:
             self.doubt(doubt)
 
     def doubt(self, doubt: Doubt) -> None:
-        """Drops a file that can't be, with the validators of its height, and leaves its source."""
+        """Drops a file that can't be, with the validators of its height, and leaves its source with the headers that it gave."""
         source = self.folder.drop(doubt.file)
         chain, _, name = doubt.file.partition("/")
         if name.startswith("commit-"):
             self.folder.drop_all(chain, f"validators-{name.removeprefix('commit-').removesuffix('.json')}-*.json")
         if source is not None:
+            self.folder.drop_headers_of(source)
             self.sources.fail(source, f"{doubt.file}: {doubt.why}")
 
 

@@ -10,7 +10,7 @@ from relayer.answers import AnswerFolder
 from relayer.check import Check, Mark
 from relayer.clock import Clock
 from relayer.config import Config, read_config
-from relayer.discover import by_chain, chains_by_hand, read_hermes, write_config
+from relayer.discover import by_chain, chain_by_hand, read_hermes, write_config
 from relayer.fetch import Fetcher
 from relayer.planner import Planner
 from relayer.rounds import Relayer
@@ -59,7 +59,8 @@ def run_init(options: argparse.Namespace, clock: Clock) -> int:
     gateways = by_chain(options.gateway, "--gateway")
     if (options.hermes is None) == (not options.chain):
         raise Fault("init: --hermes CONFIG or --chain ID=ADDRESS belongs here", 2)
-    chains = read_hermes(options.hermes, gateways) if options.hermes else chains_by_hand(options.chain, gateways)
+    by_hand = [chain_by_hand(name, nodes, gateways) for name, nodes in by_chain(options.chain, "--chain").items()]
+    chains = read_hermes(options.hermes, gateways) if options.hermes else by_hand
     clients, paths = write_config(chains, options.config, Quiet(), clock)
     print(f"{shown(options.config)}: {len(chains)} chains, {clients} clients, {paths} directions of channels")
     return 0

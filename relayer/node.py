@@ -19,7 +19,6 @@ ANSWER_BYTES = 16_777_216  # the most that `ibcplan import` reads
 ROUND_REQUESTS, ROUND_BYTES = 2_000, 268_435_456  # the most that a source may cost in a round
 FIRST_PAUSE, LONGEST_PAUSE = 5.0, 900.0  # seconds
 BUSY = {408, 425, 429, 500, 502, 503, 504}  # of these 500 only where the answer isn't JSON
-PART = 65_536
 
 
 class Kind(enum.Enum):
@@ -106,15 +105,12 @@ class Source:
             if connection is not None:
                 with contextlib.suppress(ConnectionError, http.client.BadStatusLine, http.client.CannotSendRequest):
                     return self.exchange_over(connection, path)
-            return self.exchange_over(self.connected(), path)
+            make: type[http.client.HTTPConnection] = http.client.HTTPSConnection if self.parts.scheme == "https" else http.client.HTTPConnection
+            connection = make(self.parts.hostname or "", self.parts.port, timeout=self.seconds)
+            connection.connect()
+            return self.exchange_over(connection, path)
         except (OSError, http.client.HTTPException, ValueError) as error:
             raise SourceFailure(why_of(error), may_pass=True) from None
-
-    def connected(self) -> http.client.HTTPConnection:
-        make: type[http.client.HTTPConnection] = http.client.HTTPSConnection if self.parts.scheme == "https" else http.client.HTTPConnection
-        connection = make(self.parts.hostname or "", self.parts.port, timeout=self.seconds)
-        connection.connect()
-        return connection
 
     def exchange_over(self, connection: http.client.HTTPConnection, path: str) -> tuple[int, bytes]:
         """The answer over a connection, which is cut at the end of its time, wherever the answer is then."""
@@ -122,22 +118,22 @@ class Source:
         cut = threading.Timer(self.seconds, cut_off, (connection.sock,))
         cut.daemon = True
         cut.start()
+        is_kept = False
         try:
             connection.request("GET", self.parts.path.rstrip("/") + path, headers={"Accept": "application/json", "Accept-Encoding": "identity"})
             response = connection.getresponse()
-            body = body_of(response)
-        except Exception:
-            connection.close()
-            if time.monotonic() >= end:
-                raise SourceFailure(f"no whole answer within {self.seconds:g} s") from None
-            raise
+            body = response.read(ANSWER_BYTES + 1)
+            is_kept = response.isclosed() and not response.will_close and time.monotonic() < end
         finally:
             cut.cancel()
-        if response.will_close or time.monotonic() >= end:
-            connection.close()
-        else:
-            with self.lock:
+            if is_kept:
                 self.idle.append(connection)
+            else:
+                connection.close()
+            if time.monotonic() >= end:
+                raise SourceFailure(f"no whole answer within {self.seconds:g} s")
+        if len(body) > ANSWER_BYTES:
+            raise SourceFailure(f"an answer of more than {ANSWER_BYTES:,} bytes")
         return response.status, body
 
     def close(self) -> None:
@@ -149,17 +145,6 @@ class Source:
 def cut_off(sock: socket.socket) -> None:
     with contextlib.suppress(OSError):
         sock.shutdown(socket.SHUT_RDWR)
-
-
-def body_of(response: http.client.HTTPResponse) -> bytes:
-    parts: list[bytes] = []
-    size = 0
-    while part := response.read(PART):
-        parts.append(part)
-        size += len(part)
-        if size > ANSWER_BYTES:
-            raise SourceFailure(f"an answer of more than {ANSWER_BYTES:,} bytes")
-    return b"".join(parts)
 
 
 def why_of(error: Exception) -> str:

@@ -6,10 +6,12 @@ import pathlib
 import re
 import subprocess
 import tomllib
+import typing
 from collections.abc import Mapping
 
 import ibcplan
 from relayer.config import Chain, Client, Config, Path
+from relayer.records import text, whole
 from relayer.values import Fields, nanoseconds, stamp_of
 from relayer.words import Fault, shown
 
@@ -52,16 +54,16 @@ class Refusal:
 
     name: str
     words: str
-    files: tuple[str, ...]
+    files: list[str] = dataclasses.field(default_factory=list)
 
 
 @dataclasses.dataclass(frozen=True)
 class Packet:
     """A message on a packet: its kind, its path and its sequence."""
 
-    kind: str
-    path: str
-    sequence: int
+    kind: typing.Annotated[str, text(".+")]
+    path: typing.Annotated[str, text(".+")]
+    sequence: typing.Annotated[int, whole(0, 2**63 - 1)]
 
     @property
     def name(self) -> str:
@@ -82,41 +84,21 @@ class Made:
 
 @dataclasses.dataclass(frozen=True)
 class ClientPlan:
-    """What a report says of a client in its last turn; times are nanoseconds since 1970."""
+    """What a report says of a client in its last turn, with the updates and the packet messages of each transaction; times are nanoseconds since 1970."""
 
     outcome: str
-    planned: ibcplan.Planned | None
     next: int | None
     expires: int | None
     is_live: bool
-
-    @property
-    def updates(self) -> list[ibcplan.Update]:
-        return self.planned["updates"] if self.planned else []
-
-    @property
-    def fee(self) -> int:
-        return self.planned["total"]["fee"] if self.planned else 0
-
-    @property
-    def is_too_big(self) -> bool:
-        return self.planned is not None and "too_big" in self.planned
-
-    @property
-    def packets(self) -> list[Packet]:
-        return [Packet(each["kind"], each["path"], each["sequence"]) for each in self.planned["messages"]] if self.planned else []
+    updates: list[ibcplan.Update]
+    packets: list[Packet]
+    transactions: list[tuple[list[ibcplan.Update], list[Packet]]]
+    fee: int
+    is_too_big: bool
 
     @property
     def is_due(self) -> bool:
         return bool(self.updates or self.packets)
-
-    def transactions(self) -> list[tuple[list[ibcplan.Update], list[Packet]]]:
-        """The updates and the packet messages of each transaction of the plan's batch."""
-        found, updates, packets = [], self.updates, self.packets
-        for each in self.planned.get("transactions", []) if self.planned else []:
-            first, end = each["first"], each["first"] + each["count"]
-            found.append((updates[first:end], packets[max(first - len(updates), 0):max(end - len(updates), 0)]))
-        return found
 
 
 class Planner:
@@ -124,19 +106,19 @@ class Planner:
 
     def __init__(self, config: Config) -> None:
         self.words, self.calls = config.program, 0
-        self.verified = ["--verified"] if config.is_verified else []
+        self.verified = ["--verified"] if config.verify else []
 
     def run(self, *words: str, statuses: tuple[int, ...] = (DONE,)) -> tuple[int, str, str]:
         """The status of a call, and what it writes to both outputs."""
         self.calls += 1
         try:
-            done = subprocess.run([*self.words, *words], stdin=subprocess.DEVNULL, capture_output=True, timeout=SECONDS, env={**os.environ, "LC_ALL": "C"})
+            done = subprocess.run([*self.words, *words], stdin=subprocess.DEVNULL, capture_output=True, timeout=SECONDS, env={**os.environ, "LC_ALL": "C"},
+                                  encoding="utf-8", errors="replace")
         except (OSError, subprocess.TimeoutExpired) as error:
             raise Fault(f"{shown(self.words[0])} {words[0]}: {shown(error)}", 4) from None
-        said = done.stderr.decode(errors="replace")
-        if done.returncode not in statuses or done.returncode == REFUSED and said.startswith("fault "):
-            raise Fault(f"ibcplan {words[0]} ended with status {done.returncode}: {shown(said, 1000)}", 4)
-        return done.returncode, done.stdout.decode(errors="replace"), said
+        if done.returncode not in statuses or done.returncode == REFUSED and done.stderr.startswith("fault "):
+            raise Fault(f"ibcplan {words[0]} ended with status {done.returncode}: {shown(done.stderr, 1000)}", 4)
+        return done.returncode, done.stdout, done.stderr
 
     def want(self, setup: pathlib.Path, folder: pathlib.Path) -> tuple[list[Request], dict[str, str]]:
         """What to ask for, and why no more is asked for a client or a path."""
@@ -162,14 +144,13 @@ class Planner:
         return self.run("messages", *self.verified, str(setup), str(folder), str(made), statuses=(DONE, IN_PART))
 
 
+# ---- what the program writes
+
+
 def made_in(made: pathlib.Path, output: str, error: str) -> Made:
     """What `messages` made in a folder, by what it wrote to both outputs."""
-    found = Made()
-    for match in filter(None, map(TRANSACTION.fullmatch, output.splitlines())):
-        found.transactions[match[2], int(match[3])] = made / match[1]
-    for match in filter(None, map(LOST.fullmatch, error.splitlines())):
-        found.lost[Packet(match[2], match[1], int(match[3]))] = match[4]
-    return found
+    return Made({(match[2], int(match[3])): made / match[1] for line in output.splitlines() if (match := TRANSACTION.fullmatch(line))},
+                {Packet(match[2], match[1], int(match[3])): match[4] for line in error.splitlines() if (match := LOST.fullmatch(line))})
 
 
 def requests_in(output: str) -> list[Request]:
@@ -177,28 +158,34 @@ def requests_in(output: str) -> list[Request]:
     lines = [GET.fullmatch(line) for line in output.splitlines() if line.startswith("get ")]
     if not all(lines):
         raise Fault("ibcplan asks in a line of another form: is it of another version?", 4)
-    return [Request(m[1], m[2], m[3], m[4], m[5] or "") for m in lines if m]
+    return [Request(*match.groups("")) for match in lines if match]
 
 
 def plan_of(client: ibcplan.Client, end: ibcplan.Health) -> ClientPlan:
-    upcoming = client.get("next") if client["outcome"] == "idle" or client["outcome"] == "plan" else None
-    return ClientPlan(client["outcome"], client if client["outcome"] == "plan" else None, nanoseconds(upcoming or ""), nanoseconds(end.get("expires") or ""), end.get("live", False))
+    outcome, expires, is_live = client["outcome"], nanoseconds(end.get("expires", "")), end.get("live", False)
+    upcoming = nanoseconds(client.get("next", "")) if client["outcome"] == "idle" or client["outcome"] == "plan" else None
+    if client["outcome"] != "plan":
+        return ClientPlan(outcome, upcoming, expires, is_live, [], [], [], 0, False)
+    updates = client["updates"]
+    packets = [Packet(each["kind"], each["path"], each["sequence"]) for each in client["messages"]]
+    spans = [(each["first"], each["first"] + each["count"]) for each in client.get("transactions", [])]
+    transactions = [(updates[first:end], packets[max(first - len(updates), 0):max(end - len(updates), 0)]) for first, end in spans]
+    return ClientPlan(outcome, upcoming, expires, is_live, updates, packets, transactions, client["total"]["fee"], "too_big" in client)
 
 
-def left_out_in(text: str, folder: pathlib.Path) -> dict[str, Refusal]:
+def left_out_in(error: str, folder: pathlib.Path) -> dict[str, Refusal]:
     """What is left out by the lines of `import`: `left out ID: ` or nothing, `refused NAME at PLACE`, then lines with the files, whose names are the
     relayer's own."""
     files = re.compile(re.escape(f"{folder}/") + r"([A-Za-z0-9._+#\[\]<>-]+/[a-z_]+(?:-[0-9]+)*\.json)")
     found: dict[str, Refusal] = {}
-    name = None
-    for line in text.splitlines():
+    latest = Refusal("", "")
+    for line in error.splitlines():
         if match := LEFT_OUT.fullmatch(line):
-            name = match[1] or ""
-            found[name] = Refusal(match[3] or "device", match[2], ())
+            latest = found[match[1] or ""] = Refusal(match[3] or "device", match[2])
         elif line.startswith("notice "):
-            name = None
-        elif name is not None:
-            found[name] = dataclasses.replace(found[name], files=(*found[name].files, *dict.fromkeys(files.findall(line))))
+            latest = Refusal("", "")
+        else:
+            latest.files.extend(dict.fromkeys(files.findall(line)))
     return found
 
 
@@ -217,64 +204,50 @@ class Waiting:
     is_due: bool
 
 
-def packets_in(script: str, heights: Mapping[str, int], due: Mapping[tuple[str, int], str]) -> dict[tuple[str, int], Waiting]:
-    """The packets that a script tells of, and that aren't cleared, by their paths and sequences; beside the heights of the paths' sources, and the kinds of
-    the messages that are due."""
-    events = Fields(tomllib.loads(script)).objects("turn")[-1].objects("event")
-    by_kind: dict[str, dict[tuple[str, int], int]] = {}
-    for event in events:
-        key = event.text("path") or "", event.number("seq") or 0
-        by_kind.setdefault(event.text("kind") or "", {})[key] = event.number("height") or 0
-    found = {}
-    for key, height in by_kind.get("sent", {}).items():
-        if key not in by_kind.get("cleared", ()):
-            waits_for = "acknowledgement" if key in by_kind.get("ack", ()) else "its acknowledgement's writing" if key in by_kind.get("received", ()) else "receive"
-            kind = due.get(key)
-            found[key] = Waiting(*key, height, max(heights.get(key[0], 0) - height, 0), "timeout" if kind == "timeout" else waits_for, kind is not None)
+def packets_in(script: str, heights: Mapping[str, int], due: Mapping[tuple[str, int], str]) -> list[Waiting]:
+    """The packets that a script tells of, and that aren't cleared; beside the heights of the paths' sources, and the kinds of the messages that are due."""
+    by_kind: dict[str, dict[tuple[str, int], int]] = {kind: {} for kind in ("sent", "received", "ack", "cleared")}
+    for event in Fields(tomllib.loads(script)).objects("turn")[-1].objects("event"):
+        by_kind.setdefault(event.text("kind") or "", {})[event.text("path") or "", event.number("seq") or 0] = event.number("height") or 0
+    found = []
+    for key, height in by_kind["sent"].items():
+        if key not in by_kind["cleared"]:
+            waits_for = "acknowledgement" if key in by_kind["ack"] else "its acknowledgement's writing" if key in by_kind["received"] else "receive"
+            found.append(Waiting(*key, height, max(heights.get(key[0], 0) - height, 0), "timeout" if due.get(key) == "timeout" else waits_for, key in due))
     return found
 
 
 # ---- setups
 
 
-@dataclasses.dataclass(frozen=True)
-class Window:
-    """The moments of a host's blocks in which updates arrive."""
-
-    begin: int
-    end: int
-
-    def data(self) -> dict[str, ibcplan.Data]:
-        return {"from": stamp_of(self.begin), "until": stamp_of(self.end)}
-
-
 def chain_data(chain: Chain, account: str) -> dict[str, ibcplan.Data]:
     """A chain, with how transactions to it are paid where there is an account."""
-    if chain.sender is None or not account:
+    if not account:
         return {"id": chain.id}
-    price, denom = chain.sender.price
-    factor = fractions.Fraction(str(chain.sender.gas_factor))
+    price, denom = chain.price
+    factor = fractions.Fraction(str(chain.gas_factor))
     return {"id": chain.id, "signer": account, "fee_denom": denom, "gas_price": price.as_integer_ratio(), "gas_factor": factor.as_integer_ratio()}
 
 
-def client_data(client: Client, config: Config, is_alone: bool) -> dict[str, ibcplan.Data]:
+def client_data(client: Client, host: Chain, is_alone: bool) -> dict[str, ibcplan.Data]:
     """A client, of whose messages each gets a transaction of its own where that is asked for."""
-    host = config.chain(client.host)
     gas, messages, own = host.limits
     refresh: dict[str, ibcplan.Data] = {"refresh_ns": client.refresh_seconds * 10**9} if client.refresh_seconds else {}
     return {"id": client.name, "host": client.host, "of": client.of, **refresh, "fee": host.fee, "gas": host.gas, "limits": (gas, 1 if is_alone else messages, own)}
 
 
 def path_data(path: Path) -> dict[str, ibcplan.Data]:
-    return {"id": path.name, "source": path.source.chain, "dest": path.dest.chain, "order": path.order, "first": path.first, "forward": path.forward,
-            "back": path.back, "gas": path.gas, "wait_ns": [seconds * 10**9 for seconds in path.wait], "port": path.source.port, "channel": path.source.channel,
-            "counterparty_port": path.dest.port, "counterparty_channel": path.dest.channel}
+    data: dict[str, ibcplan.Data] = {"id": path.name, **dataclasses.asdict(path), "wait_ns": [seconds * 10**9 for seconds in path.wait_seconds]}
+    return {key: value for key, value in data.items() if key != "wait_seconds"}
 
 
-def setup_text(config: Config, clients: list[Client], paths: list[Path], windows: dict[str, Window], accounts: dict[str, str], alone: set[str]) -> str:
-    """The setup of clients and paths, for what arrives in the windows of the clients' hosts; of those that send alone, each message has its transaction."""
+def setup_text(config: Config, clients: list[Client], paths: list[Path], begins: dict[str, int], accounts: dict[str, str], alone: set[str]) -> str:
+    """The setup of clients and paths, for what arrives in windows from the latest blocks of the clients' hosts on; of those that send alone, each message has
+    its transaction."""
     chains = list(dict.fromkeys(name for client in clients for name in (client.host, client.of)))
-    turn = min(windows.values(), key=lambda window: window.begin).data()
-    turn["window"] = [{"host": host, **window.data()} for host, window in windows.items()]
+    windows = {host: {"from": stamp_of(begin), "until": stamp_of(begin + config.window_nanos)} for host, begin in begins.items()}
+    turn: dict[str, ibcplan.Data] = {"window": [{"host": host, **window} for host, window in windows.items()]}
+    turn |= windows[min(begins, key=lambda host: begins[host])]
     return ibcplan.text_of({"version": 1, "chain": [chain_data(config.chain(name), accounts.get(name, "")) for name in chains],
-                            "client": [client_data(client, config, client.name in alone) for client in clients], "path": [path_data(path) for path in paths], "turn": [turn]})
+                            "client": [client_data(client, config.chain(client.host), client.name in alone) for client in clients],
+                            "path": [path_data(path) for path in paths], "turn": [turn]})

@@ -12,7 +12,7 @@ from relayer.config import Client, Config, Path
 from relayer.fetch import SEARCH, Fetcher
 from relayer.metrics import Metrics
 from relayer.node import LONGEST_PAUSE, Kind, pause_after
-from relayer.planner import ClientPlan, Made, Packet, Planner, Refusal, Waiting, Window, made_in, packets_in, setup_text
+from relayer.planner import ClientPlan, Made, Packet, Planner, Refusal, Waiting, made_in, packets_in, setup_text
 from relayer.send import Ending, Failed, Senders, Sent, Step, account_of, told_of
 from relayer.sources import Sources, Standing
 from relayer.state import Failure, Transaction, read_state
@@ -70,14 +70,12 @@ class Report:
 
 def locked(folder: pathlib.Path) -> typing.IO[bytes]:
     """A lock on a relayer's folder: two relayers in one would send twice."""
+    folder.mkdir(parents=True, exist_ok=True)
+    lock = open(folder / "lock", "ab")
     try:
-        folder.mkdir(parents=True, exist_ok=True)
-        lock = open(folder / "lock", "ab")
         fcntl.flock(lock, fcntl.LOCK_EX | fcntl.LOCK_NB)
     except BlockingIOError:
         raise Fault(f"{folder}: another relayer works in this folder", 4) from None
-    except OSError as error:
-        raise Fault(f"{folder}: {error.strerror}", 4) from None
     return lock
 
 
@@ -104,32 +102,27 @@ class Relayer:
         """A round for the clients of some hosts, or of all; a chain without a source costs its own clients alone. Transactions may be on their way at its end."""
         begin, requests, calls = self.clock.seconds(), self.sources.requests(), self.planner.calls
         hosts = self.config.hosts() if hosts is None else hosts
-        outcomes = {client.name: Outcome(client) for client in self.config.clients if client.host in hosts}
         self.settle_open(hosts)
+        outcomes = {client.name: Outcome(client) for client in self.config.clients if client.host in hosts}
         self.outcomes |= outcomes
         paths = [path for path in self.config.paths if not set(path.clients).isdisjoint(outcomes)]
-        names = {name for path in paths for name in path.clients} | {*outcomes}
+        names = {*outcomes, *(name for path in paths for name in path.clients)}
         clients = [client for client in self.config.clients if client.name in names]
         chains = list(dict.fromkeys(name for client in clients for name in (client.host, client.of)))
         for source in self.sources.all():
             source.begin_round()
+        for chain in dict.fromkeys(name for path in paths for name in path.chains):
+            self.sources.shuffle(chain)
         self.folder.begin_round(chains, [client.name for client in clients], [path.name for path in paths])
-        self.fetcher.floors = dict(self.state.blocks)
-        self.fetcher.begin_round(chains)
+        self.fetcher.begin_round(chains, self.state.blocks)
         found = Round(self, outcomes, paths)
         found.make(is_dry)
-        if not is_dry:
-            for host in hosts:
-                found.send(host)
+        for host in [] if is_dry else hosts:
+            found.send(host)
         for source in self.sources.all():
             source.end_round()
-        return Report(list(outcomes.values()), self.clock.seconds() - begin, self.sources.requests() - requests, self.planner.calls - calls,
+        return Report([*outcomes.values()], self.clock.seconds() - begin, self.sources.requests() - requests, self.planner.calls - calls,
                       dict(self.fetcher.standings), [*found.waiting.values()], found.unknown)
-
-    def window(self, host: str) -> Window:
-        """The moments of a host's blocks in which updates of a round arrive."""
-        begin = self.fetcher.standings[host].nanos
-        return Window(begin, begin + self.config.window_nanos)
 
     # ---- transactions
 
@@ -143,8 +136,8 @@ class Relayer:
     def account(self, host: str) -> str:
         """The address that signs for a host; without a program none."""
         chain = self.config.chain(host)
-        if host not in self.accounts and chain.sender is not None:
-            self.accounts[host] = account_of(chain.sender)
+        if host not in self.accounts and chain.program:
+            self.accounts[host] = account_of(chain)
         return self.accounts.get(host, "")
 
     def seconds_left(self, name: str) -> float:
@@ -168,31 +161,26 @@ class Relayer:
 
     def tell(self, sent: Sent) -> None:
         """Tells what became of a transaction; after one that failed its client waits for a while, or the packet if it is that one's alone."""
-        transaction = sent.transaction
+        transaction, is_included = sent.transaction, sent.ending is Ending.INCLUDED
         if outcome := self.outcomes.get(transaction.client):
             outcome.sent.append(sent)
-        for client in self.config.clients:
-            if client.name == transaction.client:
-                self.count(client, sent)
         say = self.log.warn if sent.ending is Ending.FAILED else self.log.info
         say("transaction", **told_of(transaction), ending=sent.ending.value, words=sent.words or None, gas_used=sent.gas_used or None)
+        self.metrics.add("ibcplan_relayer_transactions_total", 1, host=transaction.host, ending=sent.ending.value)
+        for labels in [client.labels for client in self.config.clients if client.name == transaction.client and is_included]:
+            self.metrics.add("ibcplan_relayer_updates_total", len(transaction.heights), **labels)
+            self.metrics.add("ibcplan_relayer_fees_total", transaction.fee, **labels)
         if sent.has_failed_alone:
             self.set_aside(transaction.packets[0], sent.words)
         elif sent.ending is Ending.FAILED:
             self.fail(transaction.client, sent.words)
-        elif sent.ending is Ending.INCLUDED:
-            for name in transaction.client, *(packet.name for packet in transaction.packets):
-                self.state.fail(name, None)
+        if is_included:
+            self.state.fail(transaction.client, None)
+            for packet in transaction.packets:
+                self.metrics.add("ibcplan_relayer_packets_total", 1, path=packet.path, kind=packet.kind)
+                self.state.fail(packet.name, None)
             if transaction.heights:
                 self.folder.drop_all(transaction.client, PAGES)
-
-    def count(self, client: Client, sent: Sent) -> None:
-        self.metrics.add("ibcplan_relayer_transactions_total", 1, host=client.host, ending=sent.ending.value)
-        if sent.ending is Ending.INCLUDED:
-            self.metrics.add("ibcplan_relayer_updates_total", len(sent.transaction.heights), **client.labels)
-            self.metrics.add("ibcplan_relayer_fees_total", sent.transaction.fee, **client.labels)
-            for packet in sent.transaction.packets:
-                self.metrics.add("ibcplan_relayer_packets_total", 1, path=packet.path, kind=packet.kind)
 
 
 class Round:
@@ -278,7 +266,7 @@ class Round:
         for step in steps:
             self.steps.setdefault(step.transaction.host, []).append(step)
         due = {(packet.path, packet.sequence): packet.kind for plan in plans.values() for packet in plan.packets}
-        waiting = packets_in(text, {path.name: self.standings[path.source.chain].height for path in self.paths_of(clients)}, due)
+        waiting = {(each.path, each.sequence): each for each in packets_in(text, {path.name: self.standings[path.source].height for path in self.paths_of(clients)}, due)}
         self.waiting |= waiting
         for path in self.paths_of(clients):  # failures of packets that are over
             over = set(self.failed(path)).difference(self.aside(path), (sequence for name, sequence in waiting if name == path.name))
@@ -288,7 +276,7 @@ class Round:
     def steps_of(self, client: Client, plan: ClientPlan, since: Standing, made: Made) -> list[Step]:
         """A step for each transaction of a plan, in its order."""
         steps = []
-        for number, (updates, packets) in enumerate(plan.transactions(), 1):
+        for number, (updates, packets) in enumerate(plan.transactions, 1):
             if file := made.transactions.get((client.name, number)):
                 heights, fee = tuple(update["height"] for update in updates), sum(update["fee"] for update in updates)
                 sent = tuple(packet for packet in packets if packet not in made.lost)
@@ -308,13 +296,12 @@ class Round:
             names = {client.name for client in clients} | {name for path in paths for name in path.clients}
             all_clients = [client for client in self.config.clients if client.name in names]
             standings = {host: self.standings[host] for host in dict.fromkeys(client.host for client in all_clients)}
-            windows = {host: self.relayer.window(host) for host in standings}
             accounts = {host: self.accounts[host] for host in {client.host for client in clients} & self.accounts.keys()}
             aside = [(path.name, sequence) for path in paths for sequence in self.aside(path)]
             self.fetcher.aside = {f"{name}/sent-{sequence}" for name, sequence in aside}
             for name, sequence in aside:
                 self.folder.drop_packet(name, sequence)
-            setup.write_text(setup_text(self.config, all_clients, paths, windows, accounts, {client.name for client in clients if self.is_alone(client)}))
+            setup.write_text(setup_text(self.config, all_clients, paths, {host: standing.nanos for host, standing in standings.items()}, accounts, {client.name for client in clients if self.is_alone(client)}))
             ends = self.fetcher.fetch(setup, [path.name for path in paths])
             for client in clients:
                 self.outcomes[client.name].why = ends.get(client.name, "")
@@ -376,7 +363,7 @@ class Round:
 
     def send(self, host: str) -> None:
         """Begins to send a host's steps, or tells why they don't go."""
-        why = self.whys.get(host, "") if self.config.chain(host).sender else f"the configuration has no program for {host}"
+        why = self.whys.get(host, "") if self.config.chain(host).program else f"the configuration has no program for {host}"
         if self.relayer.state.of_host(host):  # the account's next transaction would stand behind it
             why = f"the inclusion of a transaction to {host} is open"
         if why:

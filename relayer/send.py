@@ -1,6 +1,5 @@
 """Signs and broadcasts transactions by the chains' programs, and asks whether they were included. Hosts don't wait for one another."""
 import base64
-import binascii
 import dataclasses
 import enum
 import hashlib
@@ -13,7 +12,7 @@ from collections.abc import Callable
 
 from relayer.answers import write_whole
 from relayer.clock import Clock
-from relayer.config import Chain, Config, Sender
+from relayer.config import Chain, Config
 from relayer.node import Kind, Refused, SourceFailure
 from relayer.sources import Sources, Standing, Unavailable
 from relayer.state import State, Transaction
@@ -74,14 +73,11 @@ class Senders:
 
     def start(self, host: str, steps: list[Step]) -> None:
         """Begins to send steps to a host."""
-        chain = self.config.chain(host)
-        assert chain.sender is not None and not self.is_busy(host)
-        sender, done = HostSender(self, chain, chain.sender), threading.Event()
-        self.done[host] = done
+        done = self.done[host] = threading.Event()
 
         def run() -> None:
             try:
-                sender.run(steps)
+                self.send_all(self.config.chain(host), steps)
             finally:
                 done.set()
 
@@ -121,118 +117,106 @@ class Senders:
                 self.sources.fail(source, str(failure))
                 return Sent(transaction, Ending.OPEN, str(failure))
             result, block = answer.object("tx_result"), answer.number("height")
-            if (answer.text("hash") or "").upper() != transaction.hash or block is None:
+            if answer.text("hash").upper() != transaction.hash or block is None:
                 return Sent(transaction, Ending.OPEN, "a node answers of another transaction")
             code, gas = result.number("code") or 0, result.number("gas_used") or 0
             self.state.close(transaction, min(block, transaction.last_block))  # a node may lie
             if code:
-                return Sent(transaction, Ending.FAILED, f"code {code}: {shown(result.text('log') or '', 200)}", gas)
+                return Sent(transaction, Ending.FAILED, f"code {code}: {shown(result.text('log'), 200)}", gas)
             return Sent(transaction, Ending.INCLUDED, gas_used=gas)
         if not asked or any(standing.height <= transaction.last_block + INDEX_BLOCKS for _, standing in asked):
             return Sent(transaction, Ending.OPEN, words)
         self.state.close(transaction)
         return Sent(transaction, Ending.LAPSED, f"no block up to {transaction.last_block} has it: {words}")
 
+    # ---- in the thread of a host
 
-class HostSender:
-    """Sends to one host."""
-
-    def __init__(self, senders: Senders, chain: Chain, sender: Sender) -> None:
-        self.senders, self.sources, self.chain, self.sender = senders, senders.sources, chain, sender
-        self.folder = senders.config.folder / "sending" / chain.id
-
-    def run(self, steps: list[Step]) -> None:
+    def send_all(self, chain: Chain, steps: list[Step]) -> None:
         """Sends step by step. Behind one that isn't included its client's steps don't go; behind a packet message that failed alone those of other packets
         do, but on an ORDERED channel. Behind one that is open none does, as its account is the same."""
         ended: set[str] = set()
         for step in steps:
             transaction = step.transaction
-            if self.senders.stop.is_set() or not ended.isdisjoint((transaction.client, *(packet.path for packet in transaction.packets))):
+            if self.stop.is_set() or not ended.isdisjoint((transaction.client, *(packet.path for packet in transaction.packets))):
                 continue
             try:
-                sent = self.send(step)
+                sent = self.send(chain, step)
             except Fault as fault:  # of the state file: nothing is sent without it
                 sent = Sent(transaction, Ending.HELD, str(fault))
-            self.senders.tell(sent)
+            self.tell(sent)
             if sent.ending is Ending.FAILED:  # another gateway may know the client better
-                self.sources.prefer_another(self.chain.id, Kind.GATEWAY)
+                self.sources.prefer_another(chain.id, Kind.GATEWAY)
             if sent.has_failed_alone:
-                ended |= {path.name for path in self.senders.config.paths if path.name == transaction.packets[0].path and path.order == "ordered"}
+                ended |= {path.name for path in self.config.paths if path.name == transaction.packets[0].path and path.order == "ordered"}
             elif sent.ending is not Ending.INCLUDED:
                 ended.add(transaction.client)
             if sent.ending in (Ending.OPEN, Ending.HELD):
                 return
 
-    def send(self, step: Step) -> Sent:
+    def send(self, chain: Chain, step: Step) -> Sent:
         """Sends a transaction that can be included for some blocks, and waits for it."""
         transaction = step.transaction
         try:
-            standing = self.sources.first_standing(self.chain.id)
-            until = step.since.nanos + self.senders.config.window_nanos
+            standing = self.sources.first_standing(chain.id)
+            until = step.since.nanos + self.config.window_nanos
             if self.sources.is_still(standing) or standing.nanos > until:
-                return Sent(transaction, Ending.HELD, f"{self.chain.id} stands still" if standing.nanos <= until else "the window of its plan is over")
-            last_block = min(standing.height, step.since.height + 10 * self.sender.open_blocks) + self.sender.open_blocks  # a node may lie
-            signed = self.signed(step, last_block)
-            transaction = dataclasses.replace(transaction, hash=self.hash_of(signed), last_block=last_block)
+                return Sent(transaction, Ending.HELD, f"{chain.id} stands still" if standing.nanos <= until else "the window of its plan is over")
+            last_block = min(standing.height, step.since.height + 10 * chain.open_blocks) + chain.open_blocks  # a node may lie
+            signed, hash_text = self.signed(chain, step, last_block)
+            transaction = dataclasses.replace(transaction, hash=hash_text, last_block=last_block)
         except Unavailable as error:
             return Sent(transaction, Ending.HELD, str(error))
         except Failed as failed:
             return Sent(transaction, Ending.FAILED, str(failed))
-        self.senders.state.add(transaction)
-        self.senders.log.info("broadcast", **told_of(transaction))
-        if words := self.broadcast(signed):
-            self.senders.state.close(transaction)
+        self.state.add(transaction)
+        self.log.info("broadcast", **told_of(transaction))
+        if words := self.broadcast(chain, signed):
+            self.state.close(transaction)
             return Sent(transaction, Ending.FAILED, words)
         while True:
-            sent = self.senders.settle(transaction)
-            is_over = self.senders.clock.now() > until
-            if sent.ending is not Ending.OPEN or is_over or self.senders.clock.wait(self.senders.stop, self.senders.config.poll_seconds):
+            sent = self.settle(transaction)
+            is_over = self.clock.now() > until
+            if sent.ending is not Ending.OPEN or is_over or self.clock.wait(self.stop, self.config.poll_seconds):
                 return sent
 
     # ---- the chain's program
 
-    def signed(self, step: Step, last_block: int) -> pathlib.Path:
-        """The file of the signed transaction, which blocks up to a height can have."""
-        unsigned, signed = self.folder / "unsigned.json", self.folder / "signed.json"
+    def signed(self, chain: Chain, step: Step, last_block: int) -> tuple[pathlib.Path, str]:
+        """The file of the signed transaction, which blocks up to a height can have, and its hash, before it is broadcast."""
+        place = self.config.folder / "sending" / chain.id
+        unsigned, signed = place / "unsigned.json", place / "signed.json"
         transaction = fields_in(step.text)
         transaction.object("body").value["timeout_height"] = str(last_block)
         write_whole(unsigned, json.dumps(transaction.value).encode())
         signed.unlink(missing_ok=True)
-        run_program(self.sender, "sign", "tx", "sign", str(unsigned), "--from", self.sender.signer, "--chain-id", self.chain.id, "--node", self.node(), *self.sender.options,
+        run_program(chain, "sign", "tx", "sign", str(unsigned), "--from", chain.signer, "--chain-id", chain.id, "--node", self.node(chain), *chain.options,
                     "--output-document", str(signed))
-        if not signed.exists():
-            raise Failed("sign wrote no transaction")
-        return signed
-
-    def node(self) -> str:
-        """The address of a node, as the chain's program takes it."""
-        usable = self.sources.usable(self.chain.id, Kind.NODE)
-        if not usable:
-            raise Failed(f"no node of {self.chain.id} answers")
-        parts = usable[0].parts
-        host = f"[{parts.hostname}]" if ":" in (parts.hostname or "") else parts.hostname
-        return f"{parts.scheme}://{host}:{parts.port or (443 if parts.scheme == 'https' else 80)}{parts.path}"
-
-    def hash_of(self, signed: pathlib.Path) -> str:
-        """The hash of a signed transaction, before it is broadcast."""
         try:
-            data = base64.b64decode(run_program(self.sender, "encode", "tx", "encode", str(signed)).strip(), validate=True)
-        except (binascii.Error, ValueError):
-            raise Failed("encode wrote no base64") from None
+            data = base64.b64decode(run_program(chain, "encode", "tx", "encode", str(signed)).strip(), validate=True)
+        except ValueError:
+            data = b""
         if not data:
-            raise Failed("encode wrote nothing")
-        return hashlib.sha256(data).hexdigest().upper()
+            raise Failed("encode wrote no base64")
+        return signed, hashlib.sha256(data).hexdigest().upper()
 
-    def broadcast(self, signed: pathlib.Path) -> str:
+    def node(self, chain: Chain) -> str:
+        """The address of a node with its port, as the chain's program takes it."""
+        if not (usable := self.sources.usable(chain.id, Kind.NODE)):
+            raise Failed(f"no node of {chain.id} answers")
+        parts = usable[0].parts
+        port = "" if parts.port else ":443" if parts.scheme == "https" else ":80"
+        return f"{parts.scheme}://{parts.netloc.rstrip(':')}{port}{parts.path}"
+
+    def broadcast(self, chain: Chain, signed: pathlib.Path) -> str:
         """Why the node refused the transaction; empty where it took it, or where that isn't known."""
         try:
-            output = run_program(self.sender, "broadcast", "tx", "broadcast", str(signed), "--node", self.node(), "--broadcast-mode", "sync", "--output", "json")
+            output = run_program(chain, "broadcast", "tx", "broadcast", str(signed), "--node", self.node(chain), "--broadcast-mode", "sync", "--output", "json")
         except Failed as failed:
-            self.senders.log.warn("broadcast open", host=self.chain.id, why=str(failed))
+            self.log.warn("broadcast open", host=chain.id, why=str(failed))
             return ""
         answer = fields_in(output.encode())
         code = answer.number("code")
-        return "" if code in (None, 0, IN_CACHE) else f"the node refused it, code {code}: {shown(answer.text('raw_log') or '', 200)}"
+        return "" if code in (None, 0, IN_CACHE) else f"the node refused it, code {code}: {shown(answer.text('raw_log'), 200)}"
 
 
 def told_of(transaction: Transaction) -> dict[str, object]:
@@ -240,23 +224,23 @@ def told_of(transaction: Transaction) -> dict[str, object]:
     return {"client": transaction.client, "heights": transaction.heights, "packets": [*map(str, transaction.packets)], "hash": transaction.hash}
 
 
-def account_of(sender: Sender) -> str:
+def account_of(chain: Chain) -> str:
     """The address of the account that signs; by the chain's program, if the signer is the name of a key."""
-    if ADDRESS.fullmatch(sender.signer):
-        return sender.signer
-    options = [word for place, word in enumerate(sender.options) if word.partition("=")[0] in KEYRING or place and sender.options[place - 1] in KEYRING]
-    address = run_program(sender, "keys show", "keys", "show", sender.signer, "--address", *options).strip()
+    if ADDRESS.fullmatch(chain.signer):
+        return chain.signer
+    options = [word for place, word in enumerate(chain.options) if word.partition("=")[0] in KEYRING or place and chain.options[place - 1] in KEYRING]
+    address = run_program(chain, "keys show", "keys", "show", chain.signer, "--address", *options).strip()
     if not ADDRESS.fullmatch(address):
         raise Failed("keys show wrote no address")
     return address
 
 
-def run_program(sender: Sender, what: str, *words: str) -> str:
+def run_program(chain: Chain, what: str, *words: str) -> str:
     """What the program of a chain writes."""
     try:
-        done = subprocess.run([*sender.program, *words], stdin=subprocess.DEVNULL, capture_output=True, timeout=SECONDS)
+        done = subprocess.run([*chain.program, *words], stdin=subprocess.DEVNULL, capture_output=True, timeout=SECONDS, encoding="utf-8", errors="replace")
     except (OSError, subprocess.TimeoutExpired) as error:
         raise Failed(f"{what}: {shown(error, 200)}") from None
     if done.returncode != 0:
-        raise Failed(f"{what} ended with status {done.returncode}: {shown(done.stderr.decode(errors='replace').strip()[-300:])}")
-    return done.stdout.decode(errors="replace")
+        raise Failed(f"{what} ended with status {done.returncode}: {shown(done.stderr.strip()[-300:])}")
+    return done.stdout

@@ -2,6 +2,7 @@
 import concurrent.futures
 import dataclasses
 import functools
+import random
 import threading
 from collections.abc import Callable, Iterable
 
@@ -33,10 +34,10 @@ class Standing:
 def standing_in(status: Fields) -> Standing | None:
     """The standing that an answer to `/status` tells."""
     about, sync = status.object("node_info"), status.object("sync_info")
-    height, nanos = sync.number("latest_block_height"), nanoseconds(sync.text("latest_block_time") or "")
+    height, nanos = sync.number("latest_block_height"), nanoseconds(sync.text("latest_block_time"))
     if height is None or nanos is None:
         return None
-    return Standing(about.text("network") or "", height, nanos, sync.value.get("catching_up") is True, about.object("other").text("tx_index") == "on")
+    return Standing(about.text("network"), height, nanos, sync.value.get("catching_up") is True, about.object("other").text("tx_index") == "on")
 
 
 class Sources:
@@ -79,17 +80,27 @@ class Sources:
             self.move(usable[0], -1)
         return len(usable) > 1
 
-    def ask(self, chain: str, kind: Kind, path: str) -> Answer:
-        """The answer of the first source of a chain that gives one; `Refused` where some refuse it and none gives it."""
-        refusal: Refused | None = None
+    def shuffle(self, chain: str) -> None:
+        """Asks the gateways of a chain in an order by chance from now on: of a packet that one of them hides, another one tells sooner or later."""
+        with self.lock:
+            random.shuffle(self.lists[chain, Kind.GATEWAY])
+
+    def ask(self, chain: str, kind: Kind, path: str, is_whole: Callable[[Answer], bool] = lambda answer: True) -> Answer:
+        """The answer of the first source of a chain that gives one that is whole, else of the first that gives one; `Refused` where some refuse it and none
+        gives it."""
+        refusal, found = Refused(""), list[Answer]()
         for source in self.usable(chain, kind):
             try:
-                return self.ask_patiently(source, path)
+                found.append(self.ask_patiently(source, path))
+                if is_whole(found[-1]):
+                    return found[-1]
             except Refused as refused:
                 refusal = refused
             except SourceFailure as failure:
                 self.fail(source, str(failure))
-        if refusal is not None:
+        if found:
+            return found[0]
+        if str(refusal):
             raise refusal
         raise Unavailable(f"no {kind.value} of {chain} answers")
 
@@ -112,25 +123,26 @@ class Sources:
 
     # ---- standings
 
+    def flaw(self, chain: str, standing: Standing | None) -> str:
+        """Why nothing goes by a node's standing; empty where something may."""
+        if standing is None:
+            return "its status can't be read"
+        if standing.chain != chain:
+            return "it is a node of another chain"
+        if standing.is_catching_up:
+            return "it still catches up"
+        return f"its block of {stamp_of(standing.nanos)} is ahead of this system's time" if standing.nanos > self.clock.now() + self.window_nanos else ""
+
     def standing(self, source: Source) -> tuple[Standing, Answer] | None:
-        """What a node says of itself; it is left where it is of another chain, still catches up, or is ahead of this system's time."""
+        """What a node says of itself, with the answer; a node that tells nothing of use is left."""
         try:
             answer = source.ask("/status")
             found = standing_in(answer.fields)
-            if found is None:
-                raise SourceFailure("its status can't be read")
-            if found.chain != source.chain:
-                raise SourceFailure("it is a node of another chain")
-            if found.is_catching_up:
-                raise SourceFailure("it still catches up")
-            if found.nanos > self.clock.now() + self.window_nanos:
-                raise SourceFailure(f"its block of {stamp_of(found.nanos)} is ahead of this system's time")
-        except Refused as refused:
-            self.fail(source, f"it refuses /status: {refused}")
-        except SourceFailure as failure:
+            if found is not None and not self.flaw(source.chain, found):
+                return found, answer
+            self.fail(source, self.flaw(source.chain, found))
+        except (Refused, SourceFailure) as failure:
             self.fail(source, str(failure))
-        else:
-            return found, answer
         return None
 
     def is_still(self, standing: Standing) -> bool:

@@ -26,9 +26,10 @@ class Fields:
         found = self.value.get(key)
         return [item for item in found if isinstance(item, str)] if isinstance(found, list) else []
 
-    def text(self, key: str) -> str | None:
+    def text(self, key: str) -> str:
+        """A text, empty where there is none."""
         found = self.value.get(key)
-        return found if isinstance(found, str) else None
+        return found if isinstance(found, str) else ""
 
     def number(self, key: str) -> int | None:
         """A number from 0 on, or a text of its digits."""
@@ -52,16 +53,25 @@ def unwrapped(value: object) -> Fields:
     return found.object("result") if isinstance(found.value.get("result"), dict) else found
 
 
+def is_tendermint(state: Fields) -> bool:
+    """Whether a client's state is a Tendermint client's."""
+    return state.text("@type").endswith("tendermint.v1.ClientState")
+
+
+def seconds_of(period: str) -> int:
+    """The seconds of a period as gateways write it; 0 where it can't be read."""
+    return int(period[:-1]) if re.fullmatch(r"[0-9]{1,12}s", period, re.ASCII) else 0
+
+
 def nanoseconds(stamp: str) -> int | None:
     """The nanoseconds since 1970 of a time as chains write it, of one that scripts can have."""
-    match = TIME.fullmatch(stamp)
-    if match is None:
+    if (match := TIME.fullmatch(stamp)) is None:
         return None
     try:
         moment = datetime.datetime.fromisoformat(f"{match[1]}+00:00") - EPOCH
     except ValueError:
         return None
-    nanos = (moment.days * 86_400 + moment.seconds) * 10**9 + int((match[2] or "").ljust(9, "0"))
+    nanos = moment // datetime.timedelta(seconds=1) * 10**9 + int((match[2] or "").ljust(9, "0"))
     return nanos if 0 <= nanos < 10**20 else None
 
 

@@ -40,9 +40,9 @@ class Blocks:
         self.found: set[tuple[str, int, str]] = set()  # a chain, one of its blocks, and the host that has to do something
         self.ends: dict[str, list[tuple[str, str, str, str]]] = {}  # of chains: an event, the name and the value of its attribute, and the host
         for path in config.paths:
-            for end, event, side, other in (path.source, "send_packet", "src", path.dest), (path.dest, "write_acknowledgement", "dst", path.source):
-                if other.chain in config.hosts():
-                    self.ends.setdefault(end.chain, []).append((event, f"packet_{side}_channel", end.channel, other.chain))
+            for (chain, _, channel), event, side, other in (path.ends[0], "send_packet", "src", path.dest), (path.ends[1], "write_acknowledgement", "dst", path.source):
+                if other in config.hosts():
+                    self.ends.setdefault(chain, []).append((event, f"packet_{side}_channel", channel, other))
 
     def look(self) -> set[str]:
         """The hosts that have something to do by now."""

@@ -183,11 +183,11 @@ def other_relayer(program, folder):
         return flaws + [flaw for flaw in world.flaws() if "received before" not in flaw and "updates to stored" not in flaw]
 
 
-LYING = "other proofs", "other packets", "no proofs"
+LYING = "other proofs", "other packets", "no proofs", "no packets"
 
 
 def lying_nodes(program, folder):
-    """A node with wrong proofs, with other data in packets, or without proofs, beside one that is right: the packets go, and nothing fails."""
+    """A node with wrong proofs, with other data in packets, or without proofs or packets, beside one that is right: the packets go, and nothing fails."""
     flaws = []
     for fault in LYING:
         world, ends = channel_world(folder / fault, program, nodes=2)
@@ -196,6 +196,22 @@ def lying_nodes(program, folder):
                 world.sources[name, "node"][0].fault = fault
             send(world, ends)
             rounds_until_done(world, relayer, 8, 5)
+            flaws += [f"{fault}: pending {pending(world)}, {relayer.state.failures}"] if pending(world) else []
+            flaws += [f"{fault}: {flaw}" for flaw in world.flaws()]
+    return flaws
+
+
+def hiding_gateways(program, folder):
+    """A gateway of each chain that hides packets beside one that is right, in another place of its list: the packets go within some rounds."""
+    flaws = []
+    for fault in "hides commitments", "hides receipts", "hides all":
+        world, ends = channel_world(folder / fault, program, gateways=2)
+        with world, world.relaying() as relayer:
+            for place, name in enumerate(world.chains):
+                world.sources[name, "gateway"][place].fault = fault
+            send(world, ends)
+            random.seed(fault)
+            rounds_until_done(world, relayer, 30, 5)
             flaws += [f"{fault}: pending {pending(world)}, {relayer.state.failures}"] if pending(world) else []
             flaws += [f"{fault}: {flaw}" for flaw in world.flaws()]
     return flaws
@@ -326,4 +342,4 @@ def fleet(program, folder):
         return flaws + world.flaws()
 
 
-PACKET_KINDS = [lives, fails_alone, malformed_packet, other_relayer, lying_nodes, stale_gateways, killed_with_packets, new_blocks, watching_packets, fleet]
+PACKET_KINDS = [lives, fails_alone, malformed_packet, other_relayer, lying_nodes, hiding_gateways, stale_gateways, killed_with_packets, new_blocks, watching_packets, fleet]

@@ -318,17 +318,8 @@ class Chain:
 # ---- transactions of before
 
 
-def message(*fields):
-    """A protobuf message of fields with bytes."""
-    return b"".join(answers.varint(number << 3 | 2) + answers.varint(len(value)) + value for number, value in fields)
-
-
-def past_update(gas, flags, sizes, code=0, others=0):
-    """A transaction as an index tells it: an update with votes by their flags, and sets of two sizes, and other messages behind it."""
-    votes = [(4, answers.field(0x08, flag) + message((2, bytes(20)))) for flag in flags]
-    sets = [message(*[(1, message((1, bytes(20))))] * size) for size in sizes]
-    header = message((1, message((1, b""), (2, answers.field(0x08, 7) + message(*votes)))), (2, sets[0]), (3, answers.field(0x08, 1)), (4, sets[1]))
-    update = message((1, b"07-tendermint-0"), (2, message((1, b"/ibc.lightclients.tendermint.v1.Header"), (2, header))), (3, b"cosmos1relayer"))
-    any_other = message((1, b"/ibc.core.channel.v1.MsgRecvPacket"), (2, b""))
-    body = message((1, message((1, b"/ibc.core.client.v1.MsgUpdateClient"), (2, update))), *[(1, any_other)] * others)
-    return {"hash": "00" * 32, "height": "5", "tx_result": {"code": code, "gas_wanted": str(2 * gas), "gas_used": str(gas)}, "tx": base64.b64encode(message((1, body), (2, b""), (3, bytes(64)))).decode()}
+def past_update(gas, client="07-tendermint-0", code=0, messages=1):
+    """A transaction as an index tells it: an update of a client, with other messages behind it."""
+    told = [("update_client", "client_id", client), *[("message", "action", "/ibc.core.client.v1.MsgUpdateClient")] * messages]
+    events = [{"type": kind, "attributes": [{"key": key, "value": value, "index": True}]} for kind, key, value in told]
+    return {"hash": "00" * 32, "height": "5", "tx_result": {"code": code, "gas_wanted": str(2 * gas), "gas_used": str(gas), "events": events}, "tx": ""}

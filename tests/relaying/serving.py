@@ -28,7 +28,7 @@ class Source:
 
     def __init__(self, chain, kind, clock):
         self.chain, self.kind, self.clock, self.fault, self.asked, self.address = chain, kind, clock, None, [], ""
-        self.elsewhere, self.back = None, 0  # where it redirects to; by how many blocks it is behind
+        self.elsewhere, self.back, self.sent = None, 0, 0  # where it redirects to; by how many blocks it is behind; bytes of endless answers
         self.frozen_clients, self.frozen_at = {}, 0  # what a stale gateway tells, and of which block
 
     def answer(self, path, asked):
@@ -223,6 +223,32 @@ def other_packets(_, path, value):
     return json.loads(re.sub(r'(?<="packet_data_hex", "value": ")[0-9a-f]{2}', "ff", json.dumps(value))) if path == "/tx_search" else value
 
 
+def hidden(*kinds):
+    """Empty lists in the place of commitments, of sequences that weren't received, or of transactions."""
+    def lie(_, path, value):
+        if path == "/tx_search" and "txs" in kinds:
+            value["result"] |= {"txs": [], "total_count": "0"}
+        return value | {kind: [] for kind in kinds if kind in value}
+    return lie
+
+
+def endless_pages(_, path, value):
+    """Pages that always name another one."""
+    return value | {"pagination": {"next_key": "AAAA", "total": "0"}} if "pagination" in value else value
+
+
+def many_validators(_, path, value):
+    """A page of validators that tells of a great many others."""
+    if path == "/validators" and "result" in value:
+        value["result"]["total"] = "100000"
+    return value
+
+
+def padded(_, path, value):
+    """Answers with much that nobody wants."""
+    return value | {"padding": "x" * 200_000}
+
+
 def other_chain(_, path, value):
     return json.loads(json.dumps(value).replace("hub-4", "hub-5").replace("zone-1", "zone-9"))
 
@@ -259,10 +285,11 @@ def steered(_, path, value):
 
 
 LIES = {"other root": on_commit(other_root), "torn header": on_commit(torn_header), "bad signatures": on_commit(bad_signatures), "high": high, "future": future, "other chain": other_chain,
-        "other records": other_records, "made up": made_up, "steered": steered, "other proofs": other_proofs, "no proofs": no_proofs, "other packets": other_packets}
-OF_OTHERS = "other records", "other proofs", "no proofs", "other packets"  # lies of gateways, or about packets alone
+        "other records": other_records, "made up": made_up, "steered": steered, "other proofs": other_proofs, "no proofs": no_proofs, "other packets": other_packets, "no packets": hidden("txs"), "hides commitments": hidden("commitments"),
+        "hides receipts": hidden("sequences"), "hides all": hidden("commitments", "sequences"), "endless pages": endless_pages, "padded": padded, "many validators": many_validators}
+OF_OTHERS = ("other records", "other proofs", "no proofs", "other packets", "no packets", "hides commitments", "hides receipts", "hides all", "endless pages", "padded")  # lies of gateways, or about packets alone, and what is only much
 NODE_FAULTS = ["dead", "busy", "page", "list", "error", "redirect", "drip", "endless", "catching up", *(name for name in LIES if name not in OF_OTHERS)]
-GATEWAY_FAULTS = ["dead", "busy", "page", "list", "error", "redirect", "drip", "other records", "steered", "other chain"]
+GATEWAY_FAULTS = ["dead", "busy", "page", "list", "error", "redirect", "drip", "other records", "steered", "other chain", "endless pages"]
 
 
 class Server(socketserver.ThreadingMixIn, http.server.HTTPServer):
@@ -305,6 +332,7 @@ def serve(source):
                 part = b'{"":0},' * 10_000 if source.fault == "endless" else b" "
                 for _ in range(3_000):
                     self.wfile.write(part)
+                    source.sent += len(part)
                     time.sleep(0 if source.fault == "endless" else 0.1)
                 return None
             self.close_connection = self.close_connection or self.headers.get("Connection") == "close"
