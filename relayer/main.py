@@ -1,5 +1,6 @@
 """The command line of the relayer."""
 import argparse
+import contextlib
 import io
 import json
 import pathlib
@@ -51,7 +52,7 @@ def config_of(options: argparse.Namespace) -> Config:
     return config.limited_to(options.host) if options.host else config
 
 
-def told(options: argparse.Namespace, value: object, texts: list[str]) -> None:
+def tell(options: argparse.Namespace, value: object, texts: list[str]) -> None:
     print(json.dumps(value) if options.json else "\n".join(texts))
 
 
@@ -69,21 +70,16 @@ def run_init(options: argparse.Namespace, clock: Clock) -> int:
 def run_fetch(options: argparse.Namespace, clock: Clock) -> int:
     """Saves the answers that a setup needs, and has its messages made if that is asked for; status 1 where sources are missing, else that of `messages`."""
     config, log = read_config(options.config), Quiet()
-    planner, sources = Planner(config), Sources(config, log, clock)
-    fetcher = Fetcher(planner, sources, AnswerFolder(options.folder), config, log)
-    status, output, error = 0, "", ""
-    try:
+    with contextlib.closing(Sources(config, log, clock)) as sources:
+        fetcher = Fetcher(Planner(config), sources, AnswerFolder(options.folder), config, log)
         for name, why in fetcher.fetch(options.setup).items():
             log.warn("no more is asked", about=name, why=why)
-        if options.made:
-            status, output, error = fetcher.messages(options.setup, options.made)
-    finally:
-        sources.close()
+        status, output, error = fetcher.messages(options.setup, options.made) if options.made else (0, "", "")
     for name, words in fetcher.refused.items():
         log.warn("refused", request=name, words=words)
     for chain, kind in fetcher.down:
         log.warn("nobody answers", chain=chain, kind=kind.value)
-    log.warn("fetched", requests=sources.requests(), rounds=planner.calls)
+    log.warn("fetched", requests=sources.requests(), rounds=fetcher.planner.calls)
     sys.stdout.write(output)
     sys.stderr.write(error)
     return 1 if fetcher.down else status
@@ -92,42 +88,33 @@ def run_fetch(options: argparse.Namespace, clock: Clock) -> int:
 def run_check(options: argparse.Namespace, clock: Clock) -> int:
     """A line for each part; status 1 where one is bad, 3 where one needs a look."""
     found = Check(config_of(options), Quiet(io.StringIO()), clock).run()
-    told(options, [line.value() for line in found], [line.text() for line in found])
+    tell(options, [line.value() for line in found], [line.text() for line in found])
     marks = {line.mark for line in found}
     return next((mark.value for mark in (Mark.BAD, Mark.WARNING) if mark in marks), 0)
 
 
 def run_pending(options: argparse.Namespace, clock: Clock) -> int:
     """The packets that wait, by a round that sends nothing."""
-    relayer = Relayer(config_of(options), Quiet(), clock)
-    try:
+    with contextlib.closing(Relayer(config_of(options), Quiet(), clock)) as relayer:
         report = relayer.round(is_dry=True)
-    finally:
-        relayer.close()
-    told(options, lines.pending_value(report, relayer.state.failures), lines.pending_lines(report, relayer.state.failures))
+    tell(options, lines.pending_value(report, relayer.state.failures), lines.pending_lines(report, relayer.state.failures))
     return 1 if report.unknown else 0
 
 
 def run_once(options: argparse.Namespace, clock: Clock) -> int:
     """A round; status 1 where a client couldn't be planned for, or a transaction failed."""
-    relayer = Relayer(config_of(options), Log() if options.json else Quiet(), clock)
-    stop_by_signals(relayer.stop)
-    try:
+    with contextlib.closing(Relayer(config_of(options), Log() if options.json else Quiet(), clock)) as relayer:
+        stop_by_signals(relayer.stop)
         report = relayer.round(is_dry=options.dry_run)
-    finally:
-        relayer.close()
-    told(options, lines.report_value(report), [lines.outcome_line(outcome) for outcome in report.clients])
+    tell(options, lines.report_value(report), [lines.outcome_line(outcome) for outcome in report.clients])
     return 1 if any(outcome.word in ("unknown", "failed") for outcome in report.clients) else 0
 
 
 def run_watch(options: argparse.Namespace, clock: Clock) -> int:
     """Rounds until a signal ends them."""
-    relayer = Relayer(config_of(options), Log(), clock)
-    stop_by_signals(relayer.stop)
-    try:
+    with contextlib.closing(Relayer(config_of(options), Log(), clock)) as relayer:
+        stop_by_signals(relayer.stop)
         Watch(relayer).run()
-    finally:
-        relayer.close()
     return 0
 
 
@@ -138,11 +125,8 @@ def main(clock: Clock) -> int:
     options = parser().parse_args()
     try:
         return COMMANDS[options.command](options, clock)
-    except Fault as fault:
-        print(f"ibcplan-relayer: {shown(fault, 2000)}", file=sys.stderr)
-        return fault.status
-    except OSError as error:
-        print(f"ibcplan-relayer: {shown(error)}", file=sys.stderr)
-        return 4
+    except (Fault, OSError) as error:
+        print(f"ibcplan-relayer: {shown(error, 2000)}", file=sys.stderr)
+        return error.status if isinstance(error, Fault) else 4
     except KeyboardInterrupt:
         return 130

@@ -1,5 +1,6 @@
 """Metrics for Prometheus, at /metrics of a port on loopback."""
 import http.server
+import json
 import threading
 
 HELP = {
@@ -19,24 +20,23 @@ HELP = {
     "ibcplan_relayer_round_seconds": "Seconds of the last round.",
     "ibcplan_relayer_open_transactions": "Transactions whose inclusion is open.",
 }
-Values = dict[tuple[tuple[str, str], ...], float]
 
 
 class Metrics:
     """Values by name and labels."""
 
     def __init__(self) -> None:
-        self.values: dict[str, Values] = {}
+        self.values: dict[str, dict[str, float]] = {}
         self.lock = threading.Lock()
 
     def put(self, name: str, value: float, **labels: str) -> None:
         with self.lock:
-            self.values.setdefault(name, {})[tuple(labels.items())] = value
+            self.values.setdefault(name, {})[text_of(labels)] = value
 
     def add(self, name: str, value: float, **labels: str) -> None:
         with self.lock:
-            of_name, key = self.values.setdefault(name, {}), tuple(labels.items())
-            of_name[key] = of_name.get(key, 0) + value
+            of_name = self.values.setdefault(name, {})
+            of_name[text_of(labels)] = of_name.get(text_of(labels), 0) + value
 
     def forget(self, name: str) -> None:
         with self.lock:
@@ -45,19 +45,16 @@ class Metrics:
     def text(self) -> str:
         """The text that Prometheus reads."""
         with self.lock:
-            return "".join(of_name(name, values) for name, values in sorted(self.values.items()))
+            lines = []
+            for name, values in sorted(self.values.items()):
+                lines += [f"# HELP {name} {HELP[name]}", f"# TYPE {name} {'counter' if name.endswith('_total') else 'gauge'}"]
+                lines += [f"{name}{labels} {value:.15g}" for labels, value in values.items()]
+        return "".join(f"{line}\n" for line in lines)
 
 
-def of_name(name: str, values: Values) -> str:
-    lines = [f"# HELP {name} {HELP[name]}", f"# TYPE {name} {'counter' if name.endswith('_total') else 'gauge'}"]
-    for labels, value in values.items():
-        inner = ",".join(f'{key}="{escaped(text)}"' for key, text in labels)
-        lines.append(f"{name}{{{inner}}} {value:.15g}" if inner else f"{name} {value:.15g}")
-    return "\n".join(lines) + "\n"
-
-
-def escaped(text: str) -> str:
-    return text.replace("\\", "\\\\").replace('"', '\\"').replace("\n", "\\n")
+def text_of(labels: dict[str, str]) -> str:
+    """Labels as Prometheus has them: their values are the configuration's words, and escaped as in JSON."""
+    return "{%s}" % ",".join(f"{key}={json.dumps(value)}" for key, value in labels.items()) if labels else ""
 
 
 def serve(metrics: Metrics, port: int) -> http.server.ThreadingHTTPServer:
@@ -77,6 +74,5 @@ def serve(metrics: Metrics, port: int) -> http.server.ThreadingHTTPServer:
             pass
 
     server = http.server.ThreadingHTTPServer(("127.0.0.1", port), Handler)
-    server.daemon_threads = True
     threading.Thread(target=server.serve_forever, daemon=True).start()
     return server

@@ -66,12 +66,10 @@ class Source:
         self.parts = urllib.parse.urlsplit(address)
 
     def begin_round(self) -> None:
-        self.round_requests, self.round_bytes, self.has_failed = 0, 0, False
-
-    def end_round(self) -> None:
-        """After a round that it did well in, its pauses begin anew."""
+        """Counts anew; after a round that it did well in, its pauses begin anew, too."""
         if self.round_requests and not self.has_failed:
             self.failures = 0
+        self.round_requests, self.round_bytes, self.has_failed = 0, 0, False
 
     def is_usable(self) -> bool:
         return self.clock.seconds() >= self.paused_until
@@ -137,9 +135,8 @@ class Source:
         return response.status, body
 
     def close(self) -> None:
-        with self.lock:
-            while self.idle:
-                self.idle.pop().close()
+        for connection in self.idle:
+            connection.close()
 
 
 def cut_off(sock: socket.socket) -> None:
@@ -169,8 +166,9 @@ def judged(status: int, body: bytes) -> Fields:
         raise SourceFailure(f"status {status}", may_pass=True)
     if not is_object:
         raise SourceFailure(f"no JSON object, status {status}")
-    error, message = value.get("error"), value.get("message")
-    if error is not None or message is not None or status != 200:
-        said = [error.get("message"), error.get("data")] if isinstance(error, dict) else [error, message]
-        raise Refused(shown(": ".join(part for part in said if isinstance(part, str)) or f"status {status}", 200))
+    fields = Fields(value)
+    if status != 200 or not {"error", "message"}.isdisjoint(key for key, item in value.items() if item is not None):
+        error = fields.object("error")
+        said = error.text("message"), error.text("data"), fields.text("error"), fields.text("message")
+        raise Refused(shown(": ".join(filter(None, said)) or f"status {status}", 200))
     return unwrapped(value)

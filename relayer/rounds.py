@@ -119,8 +119,6 @@ class Relayer:
         found.make(is_dry)
         for host in [] if is_dry else hosts:
             found.send(host)
-        for source in self.sources.all():
-            source.end_round()
         return Report([*outcomes.values()], self.clock.seconds() - begin, self.sources.requests() - requests, self.planner.calls - calls,
                       dict(self.fetcher.standings), [*found.waiting.values()], found.unknown)
 

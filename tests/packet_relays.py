@@ -296,20 +296,19 @@ def watching_packets(program, folder):
     with world:
         world.extra = "poll_seconds = 5\nround_seconds = 3600"
         world.write()
-        chance, sent, took = random.Random(1), [], []
+        chance, sent, end = random.Random(1), 0, time.monotonic() + 900  # where it hangs
         with open(world.folder / "log", "w") as log, subprocess.Popen([*RELAYER, "--config", str(world.folder / "relayer.toml"), "watch"], stderr=log, env=world.environment(),
                                                                        cwd=world.folder) as process:
-            end = time.monotonic() + 300
-            while process.poll() is None and len(took) < 6 and time.monotonic() < end:
-                if not sent and (world.folder / "log").read_text().count('"round"') >= len(took) + 1:
+            while process.poll() is None and (done := len(told_of(world, "acknowledge_packet"))) < 6 and time.monotonic() < end:
+                if sent == done and (world.folder / "log").read_text().count('"round"') > done:
                     chain = chance.choice([*world.chains.values()])
                     chain.send(next(iter(chain.ends)), b"packet")
-                    sent = [world.clock.now()]
-                elif sent and len(told_of(world, "acknowledge_packet")) > len(took):
-                    took.append((world.clock.now() - sent.pop()) / 10**9)
+                    sent += 1
                 time.sleep(0.01)
             process.send_signal(signal.SIGTERM)
-            status = process.wait(300)
+            status = process.wait(900)
+        begins, ends = (sorted(chain.times[block] for chain in world.chains.values() for block, event, *_ in chain.events if event == kind) for kind in ("send_packet", "acknowledge_packet"))
+        took = [(end - begin) / 10**9 for begin, end in zip(begins, ends)]  # one was on its way at a time
         lines = [json.loads(line) for line in (world.folder / "log").read_text().splitlines()]
         rounds = sum(line["event"] == "round" for line in lines)
         print(f"relayer: watch had {len(took)} packets acknowledged within {[round(seconds) for seconds in took]} s, by {rounds} rounds in {(world.clock.now() - BEGIN) / 3600e9:.1f} hours")
@@ -334,7 +333,7 @@ def fleet(program, folder):
                 command = [*RELAYER, "--config", str(world.folder / "relayer.toml"), "once", "--host"]
                 running = [subprocess.Popen([*command, name], stdout=subprocess.PIPE, stderr=subprocess.PIPE, env=world.environment(), cwd=world.folder) for name in world.chains]
                 for process in running:
-                    output, error = process.communicate(timeout=300)
+                    output, error = process.communicate(timeout=900)
                     flaws += [f"status {process.returncode}: {output.decode()}{error.decode()}"] if process.returncode else []
         received = sorted(told_of(world, "recv_packet"))
         print(f"relayer: three processes over three chains: {len(received)} packets, {transactions(world)} transactions")

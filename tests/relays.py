@@ -1,7 +1,9 @@
 """Runs of the relayer over simulated chains, for tests/run."""
+import contextlib
 import dataclasses
 import json
 import pathlib
+import random
 import resource
 import signal
 import socket
@@ -93,7 +95,7 @@ SLOW = "drip"  # the fault that takes real seconds
 def faulty(program, folder, kind, fault, most=40, told=""):
     """Rounds in which the first source of hub-4 of a kind has a fault: both clients are updated by the second one, once, and the first gets few requests."""
     with two_chains(folder, program, nodes=2 if kind == "node" else 1, gateways=2 if kind == "gateway" else 1) as world:
-        world.answer_seconds = 2 if fault == SLOW else 60
+        world.answer_seconds = 4 if fault == SLOW else 600
         world.write()
         bad, elsewhere = world.sources["hub-4", kind][0], world.sources["zone-1", "node"][0]
         bad.elsewhere = elsewhere.address + "/elsewhere"
@@ -461,13 +463,20 @@ def states(program, folder):
     return flaws
 
 
+def free_port():
+    """A port that no server of another row gets meanwhile: the ports that a system gives are higher."""
+    while True:
+        with socket.socket() as bound, contextlib.suppress(OSError):
+            port = random.randrange(10_000, 30_000)
+            bound.bind(("127.0.0.1", port))
+            return port
+
+
 def watching(program, folder):
     """`watch` over hours of the chains: updates go when they are due, a round is made only then, metrics are told, and a signal ends it."""
     with World(folder, program, names=("hub-4", "zone-1"), period=7_200, refresh=3_000, blocks=200) as world:
         world.between(("hub-4", "zone-1"), first=190)
-        with socket.socket() as bound:
-            bound.bind(("127.0.0.1", 0))
-            port = bound.getsockname()[1]
+        port = free_port()
         world.extra = f"metrics_port = {port}"
         world.write()
         command = [*RELAYER, "--config", str(world.folder / "relayer.toml"), "watch"]
@@ -477,7 +486,7 @@ def watching(program, folder):
             while process.poll() is None and min(client.updates for client in world.light_clients().values()) < 2 and time.monotonic() < end and world.clock.seconds() < until:
                 time.sleep(0.05)
             try:
-                with urllib.request.urlopen(f"http://127.0.0.1:{port}/metrics", timeout=60) as answer:
+                with urllib.request.urlopen(f"http://127.0.0.1:{port}/metrics", timeout=600) as answer:
                     text = answer.read().decode()
             except OSError as error:
                 flaws.append(f"metrics: {error}")

@@ -11,7 +11,7 @@ import sys
 def asked(node, path):
     """A node's answer, over a connection of its own."""
     host, _, port = node.removeprefix("http://").partition(":")
-    with socket.create_connection((host, int(port)), timeout=20) as connection:
+    with socket.create_connection((host, int(port)), timeout=300) as connection:
         connection.sendall(f"GET {path} HTTP/1.1\r\nHost: {host}\r\nConnection: close\r\n\r\n".encode())
         answer = b"".join(iter(lambda: connection.recv(65_536), b""))
     return json.loads(answer.partition(b"\r\n\r\n")[2])["result"]

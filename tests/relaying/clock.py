@@ -64,5 +64,5 @@ class RemoteClock(SimulatedClock):
         return struct.unpack("<Q", os.pread(self.file, 8, 0))[0]
 
     def advance_to(self, nanos):
-        with urllib.request.urlopen(f"{self.address}/advance?to={nanos}", timeout=60) as answer:
+        with urllib.request.urlopen(f"{self.address}/advance?to={nanos}", timeout=600) as answer:
             answer.read()

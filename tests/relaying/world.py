@@ -31,7 +31,7 @@ class World:
         folder.mkdir(parents=True)
         self.chains = {name: kind(name, 1, **kinds) for name in names}
         self.clock = WorldClock(folder / "time", chains.BEGIN + blocks * 6 * 10**9 + 10**6, self.chains.values())
-        self.clients, self.paths, self.answer_seconds = {}, [], 60
+        self.clients, self.paths, self.answer_seconds = {}, [], 600
         self.sources = {(name, kind): [Source(chain, kind, self.clock) for _ in range(count)]
                         for name, chain in self.chains.items() for kind, count in (("node", nodes), ("gateway", gateways))}
         self.extra, self.stack = "", contextlib.ExitStack()
