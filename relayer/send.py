@@ -14,7 +14,7 @@ from relayer.answers import write_whole
 from relayer.clock import Clock
 from relayer.config import Chain, Config
 from relayer.node import Kind, Refused, SourceFailure
-from relayer.sources import Sources, Standing, Unavailable
+from relayer.sources import Sources, Standing
 from relayer.state import State, Transaction
 from relayer.values import fields_in
 from relayer.words import Fault, Log, shown
@@ -57,7 +57,7 @@ class Sent:
     @property
     def has_failed_alone(self) -> bool:
         """Whether it is the failure of a packet, and not of its client."""
-        return self.ending is Ending.FAILED and self.transaction.is_of_a_packet and self.transaction.hash != ""
+        return self.ending is Ending.FAILED and self.transaction.hash != "" and len(self.transaction.packets) == 1 and not self.transaction.heights
 
 
 class Failed(Exception):
@@ -155,19 +155,20 @@ class Senders:
 
     def send(self, chain: Chain, step: Step) -> Sent:
         """Sends a transaction that can be included for some blocks, and waits for it."""
-        transaction = step.transaction
+        transaction, until = step.transaction, step.since.nanos + self.config.window_nanos
+        if chain.id not in (best := self.sources.best_standings([chain.id])):
+            return Sent(transaction, Ending.HELD, f"no node of {chain.id} answers")
+        standing = best[chain.id][0]
+        if standing.nanos > until:
+            return Sent(transaction, Ending.HELD, "the window of its plan is over")
+        if self.sources.is_still(standing):
+            return Sent(transaction, Ending.HELD, f"{chain.id} stands still")
+        last_block = min(standing.height, step.since.height + 10 * chain.open_blocks) + chain.open_blocks  # a node may lie
         try:
-            standing = self.sources.first_standing(chain.id)
-            until = step.since.nanos + self.config.window_nanos
-            if self.sources.is_still(standing) or standing.nanos > until:
-                return Sent(transaction, Ending.HELD, f"{chain.id} stands still" if standing.nanos <= until else "the window of its plan is over")
-            last_block = min(standing.height, step.since.height + 10 * chain.open_blocks) + chain.open_blocks  # a node may lie
             signed, hash_text = self.signed(chain, step, last_block)
-            transaction = dataclasses.replace(transaction, hash=hash_text, last_block=last_block)
-        except Unavailable as error:
-            return Sent(transaction, Ending.HELD, str(error))
         except Failed as failed:
             return Sent(transaction, Ending.FAILED, str(failed))
+        transaction = dataclasses.replace(transaction, hash=hash_text, last_block=last_block)
         self.state.add(transaction)
         self.log.info("broadcast", **told_of(transaction))
         if words := self.broadcast(chain, signed):

@@ -88,20 +88,20 @@ class Sources:
     def ask(self, chain: str, kind: Kind, path: str, is_whole: Callable[[Answer], bool] = lambda answer: True) -> Answer:
         """The answer of the first source of a chain that gives one that is whole, else of the first that gives one; `Refused` where some refuse it and none
         gives it."""
-        refusal, found = Refused(""), list[Answer]()
+        found, refusals = list[Answer](), list[Refused]()
         for source in self.usable(chain, kind):
             try:
                 found.append(self.ask_patiently(source, path))
                 if is_whole(found[-1]):
                     return found[-1]
             except Refused as refused:
-                refusal = refused
+                refusals.append(refused)
             except SourceFailure as failure:
                 self.fail(source, str(failure))
         if found:
             return found[0]
-        if str(refusal):
-            raise refusal
+        if refusals:
+            raise refusals[-1]
         raise Unavailable(f"no {kind.value} of {chain} answers")
 
     def ask_patiently(self, source: Source, path: str) -> Answer:
@@ -138,9 +138,10 @@ class Sources:
         try:
             answer = source.ask("/status")
             found = standing_in(answer.fields)
-            if found is not None and not self.flaw(source.chain, found):
+            flaw = self.flaw(source.chain, found)
+            if found and not flaw:
                 return found, answer
-            self.fail(source, self.flaw(source.chain, found))
+            self.fail(source, flaw)
         except (Refused, SourceFailure) as failure:
             self.fail(source, str(failure))
         return None
@@ -148,13 +149,6 @@ class Sources:
     def is_still(self, standing: Standing) -> bool:
         """Whether no block has come for as long as a window is: then none of the moments that a plan is for would come."""
         return standing.nanos + self.window_nanos < self.clock.now()
-
-    def first_standing(self, chain: str) -> Standing:
-        """Where a chain stands by the first of its nodes that answers."""
-        for source in self.usable(chain, Kind.NODE):
-            if found := self.standing(source):
-                return found[0]
-        raise Unavailable(f"no node of {chain} answers")
 
     def best_standings(self, chains: list[str]) -> dict[str, tuple[Standing, Answer]]:
         """Where chains stand by the highest of their nodes, which are asked side by side, of those with a late block if there are some. That one is asked

@@ -27,11 +27,6 @@ class Transaction:
     hash: Text = ""
     last_block: Number = 0
 
-    @property
-    def is_of_a_packet(self) -> bool:
-        """Whether it has a packet message alone."""
-        return len(self.packets) == 1 and not self.heights
-
 
 @dataclasses.dataclass(frozen=True)
 class Failure:
