@@ -91,9 +91,10 @@ class Sources:
         found, refusals = list[Answer](), list[Refused]()
         for source in self.usable(chain, kind):
             try:
-                found.append(self.ask_patiently(source, path))
-                if is_whole(found[-1]):
-                    return found[-1]
+                answer = self.ask_patiently(source, path)
+                if is_whole(answer):
+                    return answer
+                found.append(answer)
             except Refused as refused:
                 refusals.append(refused)
             except SourceFailure as failure:
