@@ -196,11 +196,6 @@ def table(kind: str, record: Chain | Client | Path, note: str, **notes: str) -> 
     return "\n".join(lines) + "\n"
 
 
-def chain_table(chain: Chain, updates: int) -> str:
-    gateways = "several, as they come" if chain.gateways else "write the address of a gateway (ibc-go's REST), as https://rest.example"
-    return table("chain", chain, chain.id, gateways=gateways, gas=f"by {updates} updates" if updates else "a guess")
-
-
 def write_config(chains: list[Chain], file: pathlib.Path, log: Log, clock: Clock) -> tuple[int, int]:
     """Writes the configuration of chains; how many clients and directions of channels are in it."""
     if file.exists():
@@ -209,9 +204,11 @@ def write_config(chains: list[Chain], file: pathlib.Path, log: Log, clock: Clock
     discovery = Discovery(chains, sources)
     try:
         clients, paths = discovery.find()
-        tables = [chain_table(*discovery.measured(chain)) for chain in chains]
+        measured = [discovery.measured(chain) for chain in chains]
     finally:
         sources.close()
+    tables = [table("chain", chain, chain.id, gas=f"by {updates} updates" if updates else "a guess",
+                    gateways="several, as they come" if chain.gateways else "write the address of a gateway (ibc-go's REST), as https://rest.example") for chain, updates in measured]
     tables += [table("client", client, f"{client.of} on {client.host}, trusted for {discovery.days[client.name]:.1f} days") for client in clients]
     tables += [table("path", path, f"{path.port} of {path.source} to {path.counterparty_port} of {path.dest}", gas="of a receive, an acknowledgement, a timeout") for path in paths]
     file.write_text(HEAD.format(notes="".join(f"# {note}\n" for note in discovery.notes)) + "".join(tables))

@@ -75,14 +75,6 @@ class Packet:
 
 
 @dataclasses.dataclass(frozen=True)
-class Made:
-    """What `messages` made: the files of transactions by their client and their number, and the packet messages that it left out, with the reason."""
-
-    transactions: dict[tuple[str, int], pathlib.Path] = dataclasses.field(default_factory=dict)
-    lost: dict[Packet, str] = dataclasses.field(default_factory=dict)
-
-
-@dataclasses.dataclass(frozen=True)
 class ClientPlan:
     """What a report says of a client in its last turn, with the updates and the packet messages of each transaction; times are nanoseconds since 1970."""
 
@@ -147,10 +139,11 @@ class Planner:
 # ---- what the program writes
 
 
-def made_in(made: pathlib.Path, output: str, error: str) -> Made:
-    """What `messages` made in a folder, by what it wrote to both outputs."""
-    return Made({(match[2], int(match[3])): made / match[1] for line in output.splitlines() if (match := TRANSACTION.fullmatch(line))},
-                {Packet(match[2], match[1], int(match[3])): match[4] for line in error.splitlines() if (match := LOST.fullmatch(line))})
+def made_in(made: pathlib.Path, output: str, error: str) -> tuple[dict[tuple[str, int], pathlib.Path], dict[Packet, str]]:
+    """What `messages` made in a folder, by what it wrote to both outputs: the files of transactions by their client and their number; and the packet messages
+    that it left out, with the reason."""
+    return ({(match[2], int(match[3])): made / match[1] for line in output.splitlines() if (match := TRANSACTION.fullmatch(line))},
+            {Packet(match[2], match[1], int(match[3])): match[4] for line in error.splitlines() if (match := LOST.fullmatch(line))})
 
 
 def requests_in(output: str) -> list[Request]:

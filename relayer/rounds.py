@@ -12,7 +12,7 @@ from relayer.config import Client, Config, Path
 from relayer.fetch import SEARCH, Fetcher
 from relayer.metrics import Metrics
 from relayer.node import LONGEST_PAUSE, Kind, pause_after
-from relayer.planner import ClientPlan, Made, Packet, Planner, Refusal, Waiting, made_in, packets_in, setup_text
+from relayer.planner import ClientPlan, Packet, Planner, Refusal, Waiting, made_in, packets_in, setup_text
 from relayer.send import Ending, Failed, Senders, Sent, Step, account_of, told_of
 from relayer.sources import Sources, Standing
 from relayer.state import Failure, Transaction, read_state
@@ -251,35 +251,33 @@ class Round:
             script.write_text(text)
             plans = self.planner.plan(script)
             planned = [client for client in clients if client.name not in left_out]
-            is_any = any(plans[client.name].is_due and not plans[client.name].is_too_big and client.host in self.accounts for client in planned)
-            made = made_in(place / "messages", *self.fetcher.messages(place / "setup.toml", place / "messages")[1:]) if is_any else Made()
-            for packet, why in made.lost.items():
+            files, lost = dict[tuple[str, int], pathlib.Path](), dict[Packet, str]()
+            if any(plans[client.name].is_due and not plans[client.name].is_too_big and client.host in self.accounts for client in planned):
+                files, lost = made_in(place / "messages", *self.fetcher.messages(place / "setup.toml", place / "messages")[1:])
+            for packet, why in lost.items():
                 if why != BEHIND:
                     self.relayer.set_aside(packet, why)
-            if not made.lost:
+            if not lost:
                 break
-        steps = [step for client in planned for step in self.steps_of(client, plans[client.name], since[client.host], made)]
         for client in planned:
-            self.outcomes[client.name].plan, self.outcomes[client.name].until = plans[client.name], since[client.host].nanos + self.config.window_nanos
-        for step in steps:
-            self.steps.setdefault(step.transaction.host, []).append(step)
-        due = {(packet.path, packet.sequence): packet.kind for plan in plans.values() for packet in plan.packets}
-        waiting = {(each.path, each.sequence): each for each in packets_in(text, {path.name: self.standings[path.source].height for path in self.paths_of(clients)}, due)}
-        self.waiting |= waiting
-        for path in self.paths_of(clients):  # failures of packets that are over
-            over = set(self.failed(path)).difference(self.aside(path), (sequence for name, sequence in waiting if name == path.name))
-            for sequence in over if path.name not in self.unknown else ():
-                self.relayer.state.fail(f"{path.name} {sequence}", None)
+            plan = self.outcomes[client.name].plan = plans[client.name]
+            self.outcomes[client.name].until = since[client.host].nanos + self.config.window_nanos
+            for number, (updates, packets) in enumerate(plan.transactions, 1):
+                if file := files.get((client.name, number)):
+                    transaction = Transaction(client.host, client.name, tuple(update["height"] for update in updates), tuple(packet for packet in packets if packet not in lost),
+                                              sum(update["fee"] for update in updates))
+                    self.steps.setdefault(client.host, []).append(Step(transaction, file.read_bytes(), since[client.host]))
+        self.note_waiting(clients, text, plans)
 
-    def steps_of(self, client: Client, plan: ClientPlan, since: Standing, made: Made) -> list[Step]:
-        """A step for each transaction of a plan, in its order."""
-        steps = []
-        for number, (updates, packets) in enumerate(plan.transactions, 1):
-            if file := made.transactions.get((client.name, number)):
-                heights, fee = tuple(update["height"] for update in updates), sum(update["fee"] for update in updates)
-                sent = tuple(packet for packet in packets if packet not in made.lost)
-                steps.append(Step(Transaction(client.host, client.name, heights, sent, fee), file.read_bytes(), since))
-        return steps
+    def note_waiting(self, clients: list[Client], script: str, plans: dict[str, ClientPlan]) -> None:
+        """Notes the packets that wait, and forgets failures of those that are over."""
+        paths = self.paths_of(clients)
+        due = {(packet.path, packet.sequence): packet.kind for plan in plans.values() for packet in plan.packets}
+        waiting = packets_in(script, {path.name: self.standings[path.source].height for path in paths}, due)
+        self.waiting |= {(each.path, each.sequence): each for each in waiting}
+        for path in (path for path in paths if path.name not in self.unknown):
+            for sequence in set(self.failed(path)).difference(self.aside(path), (each.sequence for each in waiting if each.path == path.name)):
+                self.relayer.state.fail(f"{path.name} {sequence}", None)
 
     # ---- answers
 
