@@ -131,11 +131,11 @@ def costly_nodes(program, folder):
     flaws = []
     with mock.patch.object(node, "ROUND_BYTES", 300_000):
         flaws += faulty(program, folder / "bytes", "node", "padded", most=10, told="it has cost as much as a round may")
-    with mock.patch.object(node, "ROUND_REQUESTS", 6), two_chains(folder / "requests", program, nodes=3) as world, world.relaying() as relayer:
+    with mock.patch.object(node, "ROUND_REQUESTS", 8), two_chains(folder / "requests", program, nodes=3) as world, world.relaying() as relayer:
         for number in range(1, 3):
             flaws += expected(whole_round(relayer), "updated", f"round {number}")
             asked = {source.address: sum(path.startswith(("/status", "/commit", "/validators", "/tx?")) for path in source.asked) for source in world.sources["hub-4", "node"]}
-            flaws += [f"{asked} requests in round {number}" for _ in "1" if max(asked.values()) > 6 * number]
+            flaws += [f"{asked} requests in round {number}" for _ in "1" if max(asked.values()) > 8 * number]
             world.forward(120)
         return flaws + world.flaws()
 
