@@ -297,7 +297,8 @@ class Round:
             self.fetcher.aside = {f"{name}/sent-{sequence}" for name, sequence in aside}
             for name, sequence in aside:
                 self.folder.drop_packet(name, sequence)
-            setup.write_text(setup_text(self.config, all_clients, paths, {host: standing.nanos for host, standing in standings.items()}, accounts, {client.name for client in clients if self.is_alone(client)}))
+            begins, alone = {host: standing.nanos for host, standing in standings.items()}, {client.name for client in clients if self.is_alone(client)}
+            setup.write_text(setup_text(self.config, all_clients, paths, begins, accounts, alone))
             ends = self.fetcher.fetch(setup, [path.name for path in paths])
             for client in clients:
                 self.outcomes[client.name].why = ends.get(client.name, "")
