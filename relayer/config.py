@@ -190,9 +190,10 @@ def check(config: Config) -> None:
         if name not in chains:
             raise Misfit("no chain of the configuration has this id", place)
     for number, chain in enumerate(config.chains):
-        for key, value, why in ("signer", chain.signer, "the account that signs belongs here"), ("gas_price", chain.gas_price, "what gas costs belongs here, as 0.025uatom"):
-            if chain.program and not value:
-                raise Misfit(why, f"chain[{number}].{key}")
+        if chain.program and not chain.signer:
+            raise Misfit("the account that signs belongs here", f"chain[{number}].signer")
+        if chain.program and not chain.gas_price:
+            raise Misfit("what gas costs belongs here, as 0.025uatom", f"chain[{number}].gas_price")
     for number, client in enumerate(config.clients):
         if client.host == client.of:
             raise Misfit("a client tracks another chain than its host", f"client[{number}].of")

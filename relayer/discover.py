@@ -30,8 +30,9 @@ round_seconds = 600
 verify = true
 metrics_port = 0  # 0: none
 """
-NOTES = {"nodes": "several, as they come", "program": "signs and broadcasts", "options": 'as "--keyring-backend", "test"', "gas_factor": "by which gas limits are above the plan's gas",
-         "open_blocks": "in so many a transaction can be included", "first": "the sequence of the first packet", "wait_seconds": "for others"}
+NOTES = {"nodes": "several, as they come", "program": "signs and broadcasts", "options": 'as "--keyring-backend", "test"',
+         "gas_factor": "by which gas limits are above the plan's gas", "open_blocks": "in so many a transaction can be included",
+         "first": "the sequence of the first packet", "wait_seconds": "for others"}
 
 
 # ---- chains
@@ -159,7 +160,8 @@ class Discovery:
         """The chain with gas and fees scaled by the latest transactions that are one update each, and how many these are."""
         try:
             path = f"/tx_search?query={urllib.parse.quote(UPDATES)}&per_page={LATEST}&order_by=%22desc%22"
-            factors = [factor for each in self.sources.ask(chain.id, Kind.NODE, path).fields.objects("txs") if (factor := self.factor_of(chain, each.object("tx_result"))) > 0]
+            found = self.sources.ask(chain.id, Kind.NODE, path).fields.objects("txs")
+            factors = [factor for each in found if (factor := self.factor_of(chain, each.object("tx_result"))) > 0]
         except (Refused, Unavailable):
             factors = []
         factor = min(max(statistics.median(factors or [1]), FACTORS[0]), FACTORS[1])
@@ -207,10 +209,15 @@ def write_config(chains: list[Chain], file: pathlib.Path, log: Log, clock: Clock
         measured = [discovery.measured(chain) for chain in chains]
     finally:
         sources.close()
-    tables = [table("chain", chain, chain.id, gas=f"by {updates} updates" if updates else "a guess",
-                    gateways="several, as they come" if chain.gateways else "write the address of a gateway (ibc-go's REST), as https://rest.example") for chain, updates in measured]
-    tables += [table("client", client, f"{client.of} on {client.host}, trusted for {discovery.days[client.name]:.1f} days") for client in clients]
-    tables += [table("path", path, f"{path.port} of {path.source} to {path.counterparty_port} of {path.dest}", gas="of a receive, an acknowledgement, a timeout") for path in paths]
+    tables = []
+    for chain, updates in measured:
+        gateways = "several, as they come" if chain.gateways else "write the address of a gateway (ibc-go's REST), as https://rest.example"
+        tables.append(table("chain", chain, chain.id, gateways=gateways, gas=f"by {updates} updates" if updates else "a guess"))
+    for client in clients:
+        tables.append(table("client", client, f"{client.of} on {client.host}, trusted for {discovery.days[client.name]:.1f} days"))
+    for path in paths:
+        words = f"{path.port} of {path.source} to {path.counterparty_port} of {path.dest}"
+        tables.append(table("path", path, words, gas="of a receive, an acknowledgement, a timeout"))
     file.write_text(HEAD.format(notes="".join(f"# {note}\n" for note in discovery.notes)) + "".join(tables))
     for note in discovery.notes:
         log.warn("not asked", why=note)

@@ -15,52 +15,42 @@ class Misfit(ValueError):
         self.place = place
 
 
-def text(form: str) -> Callable[[object], str]:
-    def read(value: object) -> str:
-        if isinstance(value, str) and re.fullmatch(form, value):
+def checked(kind: type[Value], test: Callable[[Value], object], what: str) -> Callable[[object], Value]:
+    """A reader of values of a type that pass a test."""
+    def read(value: object) -> Value:
+        if isinstance(value, kind) and type(value) is kind and test(value):
             return value
-        raise Misfit(f"a text of the form {form} belongs here")
+        raise Misfit(f"{what} belongs here")
     return read
 
 
-def number(least: float, most: float) -> Callable[[object], float]:
-    def read(value: object) -> float:
-        if isinstance(value, (int, float)) and not isinstance(value, bool) and least <= value <= most:
-            return float(value)
-        raise Misfit(f"a number from {least:g} to {most:g} belongs here")
-    return read
+def text(form: str) -> Callable[[object], str]:
+    return checked(str, lambda value: re.fullmatch(form, value), f"a text of the form {form}")
 
 
 def whole(least: int, most: int) -> Callable[[object], int]:
-    def read(value: object) -> int:
-        if type(value) is int and least <= value <= most:
-            return value
-        raise Misfit(f"a whole number from {least} to {most} belongs here")
-    return read
+    return checked(int, lambda value: least <= value <= most, f"a whole number from {least} to {most}")
 
 
-def flag(value: object) -> bool:
-    if isinstance(value, bool):
-        return value
-    raise Misfit("true or false belongs here")
+def number(least: float, most: float) -> Callable[[object], float]:
+    read = checked(float, lambda value: least <= value <= most, f"a number from {least:g} to {most:g}")
+    return lambda value: read(float(value) if type(value) is int and least <= value <= most else value)
+
+
+flag = checked(bool, lambda value: True, "true or false")
 
 
 def array(read: Callable[[object], Value], least: int = 0, most: int = 10**9) -> Callable[[object], tuple[Value, ...]]:
     """A reader of arrays by a reader of their items."""
-    def read_all(value: object) -> tuple[Value, ...]:
-        if not isinstance(value, list) or not least <= len(value) <= most:
-            raise Misfit(f"an array of {least} items{'' if least == most else ' or more'} belongs here" if least else "an array belongs here")
-        return tuple(read_at(f"[{place}]", read, item) for place, item in enumerate(value))
-    return read_all
+    what = f"an array of {least} items{'' if least == most else ' or more'}" if least else "an array"
+    whole_array = checked(list, lambda value: least <= len(value) <= most, what)
+    return lambda value: tuple(read_at(f"[{place}]", read, item) for place, item in enumerate(whole_array(value)))
 
 
 def mapping(read: Callable[[object], Value]) -> Callable[[object], dict[str, Value]]:
     """A reader of objects of any keys by a reader of their values."""
-    def read_all(value: object) -> dict[str, Value]:
-        if not isinstance(value, dict):
-            raise Misfit("a table belongs here")
-        return {key: read_at(key, read, item) for key, item in value.items()}
-    return read_all
+    table = checked(dict, lambda value: True, "a table")
+    return lambda value: {key: read_at(key, read, item) for key, item in table(value).items()}
 
 
 def record(kind: Callable[..., Value], **given: object) -> Callable[[object], Value]:
@@ -72,10 +62,9 @@ def record(kind: Callable[..., Value], **given: object) -> Callable[[object], Va
     optional = {field.name for field in dataclasses.fields(made) if field.default is not dataclasses.MISSING}
 
     def read_all(value: object) -> Value:
-        for key in mapping(lambda item: item)(value):
-            if key not in fields:
-                raise Misfit("there is no such key", key)
-        table = typing.cast(dict[str, object], value)
+        table = mapping(lambda item: item)(value)
+        for key in table.keys() - fields.keys():
+            raise Misfit("there is no such key", key)
         return kind(**given, **{name: read_at(key, read, table.get(key)) for key, (name, read) in fields.items() if key in table or name not in optional})
     return read_all
 

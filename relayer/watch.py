@@ -133,7 +133,8 @@ class Watch:
             say("client", **outcome_value(outcome))
         aside = [left + 1 for name in [*self.relayer.state.failures] if " " in name and (left := self.relayer.seconds_left(name))]  # of packets
         for host in hosts:
-            self.looks[host] = self.clock.seconds() + min(*aside, *(self.seconds_until(outcome) for outcome in report.clients if outcome.client.host == host), self.config.round_seconds)
+            times = [self.seconds_until(outcome) for outcome in report.clients if outcome.client.host == host]
+            self.looks[host] = self.clock.seconds() + min(*aside, *times, self.config.round_seconds)
         self.log.info("round", hosts=hosts, seconds=round(report.seconds, 3), requests=report.requests, calls=report.calls)
         for path in self.config.paths:
             if {path.forward, path.back} & {outcome.client.name for outcome in report.clients} and path.name not in report.unknown:
