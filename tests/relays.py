@@ -110,7 +110,7 @@ def faulty(program, folder, kind, fault, most=40, told=""):
         flaws += ["asked elsewhere"] if any("elsewhere" in path for path in elsewhere.asked) else []
         flaws += ["control characters are told"] if CONTROL.search(world.told.getvalue()) else []
         flaws += [f"{len(bad.asked)} requests to the bad one"] if len(bad.asked) > (70 if fault == "endless pages" else most) else []
-        flaws += [f"{bad.sent} bytes of an answer"] if bad.sent > 1.5 * node.ANSWER_BYTES * len(bad.asked) else []
+        flaws += [f"{bad.sent} bytes of an answer"] if bad.sent > 3 * node.ANSWER_BYTES * len(bad.asked) else []
         flaws += [f"{told} isn't told: {world.told.getvalue()}"] if told not in world.told.getvalue() else []
         return [f"{kind}, {fault}: {flaw}" for flaw in flaws + world.flaws()]
 
@@ -131,7 +131,7 @@ def costly_nodes(program, folder):
     flaws = []
     with mock.patch.object(node, "ROUND_BYTES", 300_000):
         flaws += faulty(program, folder / "bytes", "node", "padded", most=10, told="it has cost as much as a round may")
-    with mock.patch.object(node, "ROUND_REQUESTS", 8), two_chains(folder / "requests", program, nodes=3) as world, world.relaying() as relayer:
+    with mock.patch.object(node, "ROUND_REQUESTS", 8), two_chains(folder / "requests", program, nodes=5) as world, world.relaying() as relayer:
         for number in range(1, 3):
             flaws += expected(whole_round(relayer), "updated", f"round {number}")
             asked = {source.address: sum(path.startswith(("/status", "/commit", "/validators", "/tx?")) for path in source.asked) for source in world.sources["hub-4", "node"]}
