@@ -1,4 +1,4 @@
-//! Answers cases of ICS 23 and of packet messages, a line each, for tests/proofs and tests/packet_messages: what proofs show,
+//! Answers cases of ICS 23 and of packet messages, a line each, for tests/by_hand/proofs and packet_messages: what proofs show,
 //! the keys that are asked for, and the messages, or why there are none.
 #![tactic(auto)]
 
