@@ -1,4 +1,3 @@
-#!/usr/bin/env python3
 """The clients for authors of relayers, each by the tests in its own language, where that is at hand; and the example in Rust, which faults and a kill stop.
 
     tests/cases/clients.py [PROGRAM]        without a program crates/ibcplan/out/ibcplan"""
@@ -7,10 +6,7 @@ import pathlib
 import re
 import shutil
 import subprocess
-import sys
-import tempfile
 
-sys.dont_write_bytecode = True
 TOP = pathlib.Path(__file__).resolve().parents[2]
 CLIENTS = TOP / "clients"
 RUST = CLIENTS / "rust" / "ibcplan"
@@ -77,10 +73,3 @@ def client_runs(program: list[str], folder: pathlib.Path) -> tuple[int, int]:
             runs, wrong = runs + 1, wrong + (shown(f"the client of {place}: {status}", output) if status or not re.search(wanted, output) else 0)
     more, bad = example_runs(os.path.abspath(path), made) if is_there(["cargo", "--version"], (1, 85)) else (0, 0)
     return runs + more, wrong + bad
-
-
-if __name__ == "__main__":
-    with tempfile.TemporaryDirectory() as made_folder:
-        count, missed = client_runs(sys.argv[1:] or [str(TOP / "crates" / "ibcplan" / "out" / "ibcplan")], pathlib.Path(made_folder))
-    print(f"{count} tests of clients, {missed} wrong")
-    sys.exit(missed > 0)

@@ -1,26 +1,17 @@
-#!/usr/bin/env python3
 """Runs of `explain` and `picture` on the rows and the examples, for tests/run; and by themselves on random scripts, as tests/by_hand/random makes them:
 
     tests/cases/explanations.py COUNT [SEED [PROGRAM WORD..]]
 
 What `explain` writes is made here by the second planner (tests/reference/explain.py); that of the
 examples, and of some rows, is also stored as NAME.explained. Pictures are read as XML, and their shapes counted; those of two examples are stored as NAME.svg."""
-import importlib.machinery
-import importlib.util
 import json
-import random
-import sys
 import tomllib
 import xml.etree.ElementTree as ElementTree
 
-sys.dont_write_bytecode = True
-from lib.program import TOP, Case, run_program
-from cases.schema import read_json
+from lib.json_reading import read_json
+from lib.judges import explain, reference
+from lib.program import TOP, Case
 from lib.script_text import LATER, a_set, chains, client, goal, header, members, packet, path, stored, turn
-
-sys.path.insert(0, str(TOP / "tests" / "reference"))
-import explain
-import reference
 
 SVG = "{http://www.w3.org/2000/svg}"
 NOT_SEARCHED = "not searched, since that takes long for so many turns and clients (--turn, --client)"
@@ -194,47 +185,3 @@ def picture_cases():
         given = picture.with_suffix(".toml").read_bytes()
         words = tomllib.loads(given.decode()).get("turn", [])
         yield Case(f"{picture.name}, stored", ["picture", "--turn", str(len(words)), "-"], given, picture.read_bytes(), b"", 0)
-
-
-# ---- random scripts
-
-
-def random_texts(count, seed):
-    """Random scripts that are read, of versions 1, 3 and 4."""
-    file = str(TOP / "tests" / "random")
-    loader = importlib.machinery.SourceFileLoader("random_scripts", file)
-    made = importlib.util.module_from_spec(importlib.util.spec_from_loader("random_scripts", loader))
-    loader.exec_module(made)
-    chance = random.Random(seed)
-    for number in range(count):
-        text = made.some_waiting_script(chance) if number % 3 == 0 else made.some_script(chance, number % 3 == 1)
-        text = made.in_version_three(chance, text) if number % 2 and "version = 1" in text else text
-        text = made.in_version_four(chance, text) if number % 4 == 3 and "version = 3" in text else text
-        try:
-            yield number, text.encode(), reference.read_script(text.encode())
-        except reference.Fault:
-            continue
-
-
-def random_cases(count, seed):
-    for number, given, script in random_texts(count, seed):
-        value = explain.value_of(script)
-        last = chosen(value, len(script.turns))
-        yield Case(f"script {number}", ["explain", "-"], given, explain.text_of(value).encode(), b"", 0)
-        yield Case(f"script {number} as JSON", ["explain", "--json", "-"], given, value, b"", 0, reader=read_json)
-        yield Case(f"script {number}, a picture", ["picture", "-"], given, expected_shapes(last), b"", 0, reader=shapes)
-
-
-def main():
-    words = sys.argv[1:]
-    if not words or not all(word.isdigit() for word in words[:2]):
-        sys.exit(__doc__)
-    cases = list(random_cases(int(words[0]), int(words[1]) if len(words) > 1 else 1))
-    wrong = run_program(words[2:] or [str(TOP / "crates/ibcplan/out/ibcplan")], cases)
-    if wrong:
-        sys.exit(f"{wrong} of {len(cases)} runs are wrong")
-    print(f"{len(cases)} runs are as they have to be")
-
-
-if __name__ == "__main__":
-    main()

@@ -6,8 +6,9 @@ import shutil
 
 from lib import answers
 from lib.answer_edits import COMMIT, CONSENSUS, HEADER, STATE, edited, moved, removed, removed_folder, written
-from cases.imports import CLIENT, FRESH, HEAD, ONE, TURN, UNCHECKED, values_of
+from lib.importing import CLIENT, HEAD, ONE, TURN, values_of
 from lib.json_paths import gone, put
+from lib.notices import NOTHING_FRESH, UNVERIFIED_COMMITS
 from lib.program import Case
 
 PATH = '[[path]]\nid = "%s"\nsource = "hub-4"\ndest = "zone-1"\norder = "unordered"\nforward = "%s"\nback = "zone-on-hub"\ngas = [5, 5, 5]\n'
@@ -97,7 +98,7 @@ def told_of(chains=(), clients=(), paths=(), is_sound=True):
 
 def fleet_case(top, what, status, *words, **parts):
     """The import of a setup with these parts, where nothing or the sound part is written."""
-    setup, folder, told = top / f"fleet-{what}.toml", top / "fleet", [*told_of(**parts), FRESH.encode(), *((UNCHECKED % chain).encode() for chain in ("hub-4", "zone-1"))]
+    setup, folder, told = top / f"fleet-{what}.toml", top / "fleet", [*told_of(**parts), NOTHING_FRESH.encode(), *((UNVERIFIED_COMMITS % chain).encode() for chain in ("hub-4", "zone-1"))]
     setup.write_text(setup_of(**parts))
     words = ["import", *words, str(setup), str(folder)]
     if status in (0, 7):

@@ -2,13 +2,13 @@
 speak of what was forgotten are refused."""
 import datetime
 import os
-import pathlib
 import subprocess
 import sys
 import threading
 
-from cases.follows import MARK, TOP, answers_of, check, ended, followed, run_in_pieces
-from cases.schema import read_json
+from lib.following import MARK, answers_of, check, ended, followed, run_in_pieces
+from lib.json_reading import read_json
+from lib.program import TOP
 
 CHAINS = """version = %d
 
@@ -543,11 +543,3 @@ def forget_runs(program, folder):
     """All runs of what is forgotten: how many there were, and how many weren't as they have to be."""
     counts = [case(program, folder) for case in FORGETS]
     return sum(runs for runs, _ in counts), sum(wrong for _, wrong in counts)
-
-
-if __name__ == "__main__":
-    import tempfile
-    with tempfile.TemporaryDirectory() as made:
-        count, missed = forget_runs(sys.argv[1:] or [str(TOP / "crates" / "ibcplan" / "out" / "ibcplan")], pathlib.Path(made))
-    print(f"{count} runs, {missed} wrong")
-    sys.exit(missed > 0)

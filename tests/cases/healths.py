@@ -1,42 +1,13 @@
 """Runs of `health` on the rows and the examples, for tests/run; what it writes, and when the clients in `plan --json` expire, is made here by the second
 planner (tests/reference)."""
-import functools
-import sys
 
-sys.dont_write_bytecode = True
-from lib.program import TOP, Case
-
-sys.path.insert(0, str(TOP / "tests" / "reference"))
-import explain
-import reference
+from lib.judges import explain, reference
+from lib.outputs import expiries, stored_texts
+from lib.program import Case
 
 HEAD = """# HELP ibcplan_client_expires_timestamp_seconds When the newest consensus state that the client has stored expires, in seconds since 1970.
 # TYPE ibcplan_client_expires_timestamp_seconds gauge
 """
-
-
-@functools.cache
-def expiries(text):
-    """Of each client of a script after its last turn: the client, its newest stored height, when that expires, and the window's end, in nanoseconds; none
-    where nothing is stored."""
-    script = reference.read_script(text.encode())
-    relayer = reference.Relayer(script)
-    for turn in script.turns:
-        relayer.turn(turn)
-    found = []
-    for client in script.clients.values():
-        stored = relayer.stored[client.id]
-        if stored:
-            height = max(stored)
-            found.append((client, (height, relayer.books[client.of].times[height] + client.period, relayer.window_of(client)[1])))
-        else:
-            found.append((client, None))
-    return found
-
-
-def clients_of(text):
-    """The clients as `plan --json` has them."""
-    return [{"id": client.id} | ({"expires": reference.stamp(expiry[1]), "live": expiry[1] > expiry[2]} if expiry else {}) for client, expiry in expiries(text)]
 
 
 def lines_of(text):
@@ -59,9 +30,9 @@ def metrics_of(text):
                           for client, expiry in expiries(text) if expiry)
 
 
-def health_cases(stored):
+def health_cases():
     """The runs of `health` on scripts that have a report, and on a script with a fault."""
-    for script, report in stored:
+    for script, report in stored_texts():
         what = " ".join(report.split()[:9])
         yield Case(f"health of {what}", ["health", "-"], script.encode(), lines_of(script).encode(), b"", 0)
         yield Case(f"metrics of {what}", ["health", "--prometheus", "-"], script.encode(), metrics_of(script).encode(), b"", 0)

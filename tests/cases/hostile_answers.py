@@ -10,8 +10,9 @@ import sys
 
 from lib import answers
 from lib.answer_edits import COMMIT_FILE, edited, hashed, in_turn, judged
-from cases.imports import CLIENT, ENDS, HEAD, MORE, NO_HEADERS, ONE, PACKETS, PATH, TURN, import_case, setups
+from lib.importing import CLIENT, ENDS, HEAD, ONE, PATH, TURN, import_case, setups
 from lib.json_paths import put
+from lib.notices import MISSING_HEADERS, MORE_PACKETS, TOO_MANY_PACKETS
 from lib.program import TOP, Case
 
 try:
@@ -51,13 +52,13 @@ def verified_cases(top):
     """`--verified`: headers without a good verdict for more than two thirds of their sets are left out."""
     text = setups(2)[0]
     for number, (change, lines) in enumerate((
-        (lambda folder: None, [NO_HEADERS]),
+        (lambda folder: None, [MISSING_HEADERS]),
         (judged((1, [], [], 6), (80, [], [], 6)), []),
         (judged((1, [], [], 6), (80, [5], [], 5)), []),
         (judged((80, [], [], 6)), []),
         (judged((1, [], [], 6), (80, [0, 1, 2], [], 3)), []),
         (judged((1, [], [], 6), (80, [], [0, 1, 2], 3)), []),
-        (judged((1, [0, 1, 2, 3, 4, 5], [], 0), (80, [], [0, 1, 2, 3, 4, 5], 0)), [NO_HEADERS]),
+        (judged((1, [0, 1, 2, 3, 4, 5], [], 0), (80, [], [0, 1, 2, 3, 4, 5], 0)), [MISSING_HEADERS]),
         (in_turn(judged((1, [], [], 6), (80, [], [], 6)), edited(COMMIT_FILE, put("id", 7))), []),
     )):
         folder, setup = folder_in(top, f"verified-{number}", change), top / f"verified-{number}.toml"
@@ -175,7 +176,7 @@ def many_sends_row(top, words):
     answers.write(folder / "transfers" / "received.json", answers.search())
     line = (f'{words} import "$0" "$1" > "$1.script" 2> "$1.told"; echo "$?"; grep -c "^left out" "$1.told"; grep -c "kind = \\"sent\\"" "$1.script"; '
             f'{words} plan "$1.script" > "$1.report"; echo "$?"; grep -c "^client " "$1.report"; grep "^notice TooManyPackets" "$1.told"')
-    told = PACKETS % (210_000 - 4_096, 4_097, 210_000 - 4_095, 210_000 - 4_095)
+    told = TOO_MANY_PACKETS % (210_000 - 4_096, 4_097, 210_000 - 4_095, 210_000 - 4_095)
     yield Case("210,000 packets of a path", ["sh", "-c", line, str(setup), str(folder)], b"", f"0\n0\n4096\n0\n2\n{told}".encode(), b"", 0)
 
 
@@ -191,7 +192,7 @@ def unseen_sends_row(top, words):
     (folder / "transfers" / "commitments-1.json").write_text(text)
     line = (f'{words} import "$0" "$1" > "$1.script" 2> "$1.told"; echo "$?"; grep -c "^left out" "$1.told"; grep -c "^notice MissingSend at transfers" "$1.told"; '
             'grep -c "kind = \\"sent\\"" "$1.script"; grep "^notice MorePackets" "$1.told"')
-    yield Case("390,000 commitments to packets that nobody saw sent", ["sh", "-c", line, str(setup), str(folder)], b"", f"0\n0\n100\n0\n{MORE % (101, 389_900)}".encode(), b"", 0)
+    yield Case("390,000 commitments to packets that nobody saw sent", ["sh", "-c", line, str(setup), str(folder)], b"", f"0\n0\n100\n0\n{MORE_PACKETS % (101, 389_900)}".encode(), b"", 0)
 
 
 def hostile_cases(top):

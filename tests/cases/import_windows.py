@@ -5,10 +5,13 @@ A window that a script can't have is a fault of the setup. Where a client is lef
 import shutil
 
 from lib import answers
-from cases.imports import CLIENT, EXPIRED, FRESH, FROM, FUTURE, HEAD, ONE, SETTING, TURN, UNTIL, import_case, reference, setups, swapped, values_of
+from lib.answer_edits import swapped
+from lib.importing import CLIENT, FROM, HEAD, ONE, SETTING, TURN, import_case, setups, values_of
+from lib.judges import reference
+from lib.notices import FUTURE_HEADERS, NOTHING_FRESH, NOTHING_TRUSTED
 from lib.program import Case
 
-ALL_EXPIRED = EXPIRED % "all 2 stored consensus states have expired at the window's end"
+ALL_EXPIRED = NOTHING_TRUSTED % "all 2 stored consensus states have expired at the window's end"
 TWO = CLIENT % ("zone-on-hub", "hub-4", "zone-1")
 
 
@@ -41,18 +44,18 @@ def set_to(words):
 # the changes of a setup of one client on zone-1, whose window is from 12:09:20 until 12:09:30, and the notices. Header 80 and record 80 are of
 # 12:08:32.803238123, the clock drift is 7 ns; record 80 is trusted until 12:09:30 and a nanosecond where the period is 57_196_761_878 ns
 NOTICES = [
-    ([given(window("zone-1", "12:08:32Z", "12:09:30Z"))], [FUTURE % (80, 1)]),
+    ([given(window("zone-1", "12:08:32Z", "12:09:30Z"))], [FUTURE_HEADERS % (80, 1)]),
     ([later("12:08:32Z"), given(window("zone-1", "12:08:33Z", "12:09:30Z"))], []),
-    ([later("12:08:32Z"), given(window("hub-4", "12:08:33Z", "12:09:30Z"))], [FUTURE % (80, 1)]),
+    ([later("12:08:32Z"), given(window("hub-4", "12:08:33Z", "12:09:30Z"))], [FUTURE_HEADERS % (80, 1)]),
     ([given(window("hub-4", "12:00:01Z", "12:09:30Z"), window("zone-1", "12:08:33Z", "12:09:30Z"))], []),
-    ([set_to("period_ns = 57_196_761_878\n"), given(window("zone-1", "12:09:20Z", "12:09:30.000000001Z"))], [ALL_EXPIRED, FRESH]),
-    ([set_to("period_ns = 57_196_761_877\n"), given(window("zone-1", "12:09:20Z", "12:09:29.999999999Z"))], [FRESH]),
-    ([set_to("period_ns = 57_196_761_877\n"), given(window("hub-4", "12:09:20Z", "12:09:29.999999999Z"))], [ALL_EXPIRED, FRESH]),
-    ([set_to("refresh_ns = 58_000_000_000\n"), given(window("zone-1", "12:09:20Z", "12:09:31Z"))], [FRESH]),
+    ([set_to("period_ns = 57_196_761_878\n"), given(window("zone-1", "12:09:20Z", "12:09:30.000000001Z"))], [ALL_EXPIRED, NOTHING_FRESH]),
+    ([set_to("period_ns = 57_196_761_877\n"), given(window("zone-1", "12:09:20Z", "12:09:29.999999999Z"))], [NOTHING_FRESH]),
+    ([set_to("period_ns = 57_196_761_877\n"), given(window("hub-4", "12:09:20Z", "12:09:29.999999999Z"))], [ALL_EXPIRED, NOTHING_FRESH]),
+    ([set_to("refresh_ns = 58_000_000_000\n"), given(window("zone-1", "12:09:20Z", "12:09:31Z"))], [NOTHING_FRESH]),
     ([set_to("refresh_ns = 57_000_000_000\n"), given(window("zone-1", "12:09:20Z", "12:09:29Z"))], []),
 ]
 # the windows that two turns give zone-1, until then: the last one is in force
-IN_TURNS = [(["12:09:31Z"], [], [FRESH]), ([], ["12:09:31Z"], [FRESH]), (["12:09:21Z"], ["12:09:31Z"], [FRESH]), (["12:09:31Z"], ["12:09:21Z"], [])]
+IN_TURNS = [(["12:09:31Z"], [], [NOTHING_FRESH]), ([], ["12:09:31Z"], [NOTHING_FRESH]), (["12:09:21Z"], ["12:09:31Z"], [NOTHING_FRESH]), (["12:09:31Z"], ["12:09:21Z"], [])]
 BAD = [
     ("1002 MissingKey at turn[1].window[0].host", '{ from = "2026-11-01T12:09:20Z", until = "2026-11-01T12:09:30Z" }'),
     ("1002 MissingKey at turn[1].window[0].until", '{ host = "zone-1", from = "2026-11-01T12:09:20Z" }'),

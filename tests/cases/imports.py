@@ -7,70 +7,27 @@ import gzip
 import json
 import random
 import re
+import shlex
 import shutil
-import sys
-import tomllib
+import subprocess
 from datetime import timedelta
 
 from lib import answers
 from lib.answer_edits import (CLEARED_FILE, COMMIT, COMMIT_FILE, CONSENSUS, FIRST, FORWARDED, HEADER, LATER, OTHER, OURS, PACKET, PAGE_FILE, RECEIVED_FILE,
-                          SENT_FILE, SIGNATURE, SIGNED, STATE, STATE_FILE, STORED_FILE, TX, VERDICTS, earlier, earlier_with, edited, hashed, in_turn, judged,
-                          many, moved, packet_txs, padded, paged, pending, removed, removed_folder, saved, seen_alone, sent_until, swapped, upgraded, votes_for, written)
-from lib.json_paths import at, gone, put
+                              SENT_FILE, SIGNATURE, SIGNED, STATE, STATE_FILE, STORED_FILE, TX, VERDICTS, earlier, earlier_with, edited, hashed, in_turn,
+                              judged, many, moved, packet_txs, padded, paged, pending, removed, removed_folder, saved, seen_alone, sent_until, swapped,
+                              upgraded, votes_for, written)
+from lib.importing import (BOTH_NAMED, CHAIN_QUERIES, CLIENT, COUNTERPARTY, ENDS, FROM, HEAD, MISNAMED, NAMED, ONE, PATH_GAS, SETTING, SOURCE, TURN,
+                           import_case, in_result, setups, told_by, values_of)
+from lib.json_paths import gone, put
+from lib.judges import reference
+from lib.nodes import fetching
+from lib.notices import (FUTURE_HEADERS, INTO, LEFT_NEXT_SETS, MISSING_HEADERS, MISSING_LATEST, MISSING_NEXT_SET, MISSING_SEARCHES, MISSING_STATES,
+                         MORE_PACKETS, NOTHING_FRESH, NOTHING_TRUSTED, NOT_CANONICAL, OTHER_CHANNEL, PASSED_OVER, SEVERAL_COUNTERPARTIES, TOO_MANY_HEADERS,
+                         TOO_MANY_PACKETS, TOO_MANY_RECORDS, TOO_MANY_SETS, UNSEEN_GOAL, lacking)
 from lib.program import TOP, Case, ToldCase
 
-sys.path.insert(0, str(TOP / "tests" / "reference"))
-import reference
-
 EXAMPLE = TOP / "examples" / "import"
-HEAD = 'version = 1\nchain = [{ id = "hub-4" }, { id = "zone-1" }]\n'
-CLIENT = '[[client]]\nid = "%s"\nhost = "%s"\nof = "%s"\nfee = [100, 1, 1]\ngas = [100, 1, 1]\nlimits = [100000, 100, 0]\n'
-ONE = CLIENT % ("hub-on-zone", "zone-1", "hub-4")
-PATH = ('[[path]]\nid = "transfers"\nsource = "hub-4"\ndest = "zone-1"\norder = "unordered"\nforward = "hub-on-zone"\n'
-        'back = "zone-on-hub"\ngas = [5, 5, 5]\n')
-SOURCE = 'port = "transfer"\nchannel = "channel-0"\n'
-COUNTERPARTY = 'counterparty_port = "transfer"\ncounterparty_channel = "channel-7"\n'
-ENDS = SOURCE + COUNTERPARTY
-TURN = '[[turn]]\nfrom = "2026-11-01T12:09:%02dZ"\nuntil = "2026-11-01T12:09:30Z"\ngoal = [{ client = "hub-on-zone", at_least = 80 }]\n'
-GIVEN = ["", "period_ns = 800000000000000\n", "drift_ns = 7\ntrust = [2, 3]\n", "period_ns = 900000000000000\ndrift_ns = 7\ntrust = [1, 2]\n"]
-
-
-def setups(seed):
-    """The setup of one client, which is planned, and one of two clients, a path and two turns."""
-    one = HEAD + ONE + GIVEN[seed % 4] + TURN % 20
-    two = CLIENT % ("zone-on-hub", "hub-4", "zone-1") + "refresh_ns = 5_000_000_000_000\n"
-    path = PATH + (ENDS if seed % 4 == 1 else SOURCE if seed % 2 else "") + ("first = 2\n" if seed % 3 == 0 else "")
-    path += "wait_ns = [600_000_000_000, 0, 9223372036854775807]\n" if seed % 5 == 2 else ""
-    turns = TURN % 10 + 'settle = [{ client = "hub-on-zone", batch = 1, done = 2 }]\n' + TURN % 20
-    return one, HEAD + ONE + two + path + turns
-
-
-def told_by(text, folder, lines=(), verified=False):
-    """All lines of notices: these, and those that a plain reading makes: of chains with headers that are left out, and of chains without verdicts."""
-    setup = tomllib.loads(text)
-    tracked = {client["of"] for client in setup["client"]}
-    chains = {chain["id"]: answers.Told(folder / chain["id"], verified) for chain in setup["chain"] if chain["id"] in tracked}
-    before = [line for line in lines if line.startswith("notice MissingHeaders ")]
-    before += [MISSING_SETS % (name, told.bare[-1], len(told.bare), told.bare[-1], name) for name, told in chains.items() if told.bare]
-    before += [UNSIGNED % (name, told.unsigned[-1], len(told.unsigned), told.unsigned[-1]) for name, told in chains.items() if told.unsigned]
-    unjudged = {name: len(told.headers.keys() - told.verdicts.keys()) for name, told in chains.items() if (folder / name / "verdicts.json").exists()}
-    after = [UNVERIFIED % (name, count) for name, count in unjudged.items() if count]
-    after += [UNCHECKED % name for name, told in chains.items() if told.headers and name not in unjudged]
-    passed = [line for line in lines if line.startswith("notice PassedOver ")]
-    rest = [line for line in lines if line not in before + passed]
-    return tuple(line.replace("{folder}", str(folder)).encode() for line in before + rest + after + passed)
-
-
-def import_case(what, words, text, folder, lines=(), **more):
-    """A run of `import` that writes the script of the plain reading and tells these notices, and those that the plain reading makes, and nothing else."""
-    verified = "--verified" in words
-    told = told_by(text, folder, lines, verified)
-    return ToldCase(what, ["import", *words], b"", answers.script_of(text, folder, verified), b"".join(told[:1]), 0, reader=values_of, told=told, **more)
-
-
-def values_of(output):
-    """The values of a script that was written."""
-    return answers.with_numbers(tomllib.loads(output.decode()))
 
 
 def seed_cases(top, seed):
@@ -127,8 +84,8 @@ def busy_cases(top):
     and with more records than any book holds. Then more headers, and more sets of headers, than any book holds."""
     two = CLIENT % ("again-on-zone", "zone-1", "hub-4")
     for most, every, first, setup, others, lines in (
-        (1500, 1, 1505, HEAD + ONE, {}, [SETS % (482, 0)]),
-        (4100, 12, 4100, HEAD + ONE + two, {"again-on-zone": [2, 3, 7, 4100]}, [MANY % ("hub-on-zone", 6), MANY % ("again-on-zone", 2)]),
+        (1500, 1, 1505, HEAD + ONE, {}, [TOO_MANY_SETS % (482, 0)]),
+        (4100, 12, 4100, HEAD + ONE + two, {"again-on-zone": [2, 3, 7, 4100]}, [TOO_MANY_RECORDS % ("hub-on-zone", 6), TOO_MANY_RECORDS % ("again-on-zone", 2)]),
     ):
         folder, path = top / f"busy-{most}", top / f"busy-{most}.toml"
         answers.make_busy(folder, {"hub-on-zone": range(1, most + 1), **others}, [first, most + 10, most + 30], every)
@@ -140,12 +97,12 @@ def busy_cases(top):
         if most < 4096:  # the reference planner takes long for more
             exact = path.with_name("busy-exact.toml")  # a goal below which all next sets are left out
             exact.write_text(text.replace(f"at_least = {most + 30}", "exactly = 400"))
-            yield import_case("records without next sets below a goal", [str(exact), str(folder)], exact.read_text(), folder, [lines[0], LEFT_SETS % 399])
+            yield import_case("records without next sets below a goal", [str(exact), str(folder)], exact.read_text(), folder, [lines[0], LEFT_NEXT_SETS % 399])
             toml = answers.in_toml(answers.script_of(text, folder))
             report = reference.report(reference.read_script(toml))
             assert f" from {most} " in report and f"\nupdate {most + 30} " in report
             yield Case(f"plan of {most} records", ["plan", "-"], toml, report.encode(), b"", 0)
-    for most, every, stored, lines in ((1030, 1, [1], [SETS % (7, 7), LEFT_SETS % 1]), (4100, 12, [1, 4100], [HEADERS % 4, MANY % ("hub-on-zone", 1)])):
+    for most, every, stored, lines in ((1030, 1, [1], [TOO_MANY_SETS % (7, 7), LEFT_NEXT_SETS % 1]), (4100, 12, [1, 4100], [TOO_MANY_HEADERS % 4, TOO_MANY_RECORDS % ("hub-on-zone", 1)])):
         folder, path, text = top / f"many-{most}", top / f"many-{most}.toml", HEAD + ONE + (TURN % 20).replace("-01T12:09", "-02T12:09")
         answers.make_busy(folder, {"hub-on-zone": stored}, range(1, most + 1), every)
         path.write_text(text)
@@ -303,7 +260,6 @@ DAMAGES = [
 
 
 ADVICE = "the node answered an error; ask it again, or another node"
-INTO = " into files *.json of the folder "
 
 # changes of the folder, the line that tells them, the status, and the files that are named
 CHANGES = [
@@ -385,88 +341,32 @@ CHANGES = [
 ]
 
 
-PAGE = (
-    "notice MissingStates at hub-on-zone %d: the answers have a later page of the client's consensus states, and not this one; delete the files "
-    "consensus_states-*.json of higher numbers in the folder hub-on-zone, and fetch the pages from this one on\n"
-)
-NEXT_SETS = "notice MissingNextSet at hub-on-zone: no update starts from stored consensus states without their next validators"
-NEXT_SET = NEXT_SETS + f"; no answer has those of %d consensus states: fetch all pages of /validators?height=%d&per_page=100, for the highest of them,{INTO}hub-4\n"
-LEFT_SETS = NEXT_SETS + "; those of %d consensus states are of sets of hub-4 that are left out\n"
-LATEST = ("notice MissingLatest at hub-on-zone %d: the client's latest height is not among its stored consensus states, so that its answers are of two moments or of two "
-          "nodes, or pages of consensus states are missing; fetch client_states and all pages of consensus_states of the client again, from one node,"
-          f"{INTO}hub-on-zone\n")
-NOT_CANONICAL = ("notice NotCanonical at hub-4 %d: %d commits, this the highest, are not canonical yet, since the node had no next block; the chain may store more "
-                 "votes of them, so that an update costs more; fetch /commit?height=%d again, in place of that answer\n")
-MANY = "notice TooManyRecords at %s: %d of its stored consensus states, the lowest, are left out; a light store holds 4,096 consensus states\n"
-HEADERS = "notice TooManyHeaders at hub-4: %d of its headers, the lowest, are left out; a light store holds 4,096 consensus states\n"
-SETS = "notice TooManySets at hub-4: %d of its validator sets, the lowest, are left out, with %d headers of them; a light store holds 1,024 sets\n"
-GOAL = ("notice UnseenGoal at hub-on-zone %d: hub-4 has no header %s height, so that no update reaches it; fetch /commit?height=%d and all pages of "
-        f"/validators?height=%d&per_page=100{INTO}hub-4\n")
-EXPIRED = ("notice NothingTrusted at hub-on-zone: %s, so that no update starts from any; see whether the window is right, or fetch the client's "
-           f"consensus states again{INTO}hub-on-zone\n")
-FUTURE = ("notice FutureHeaders at hub-on-zone %d: headers of hub-4 from this height on, %d of them, are ahead of the window's first moment by the "
-          "client's clock drift or more, so that no update takes them; let the window begin later\n")
-UNSEARCHED = ("notice MissingSearches at transfers: no answer of /tx_search tells of %s, nor is there an empty answer to each such search; nothing is planned for "
-              f"packets that aren't seen as sent, and those that aren't seen as received or cleared are planned again; fetch all pages of /tx_search{INTO}transfers\n")
-SEVERAL = ("notice SeveralCounterparties at transfers: packets were sent from its source to several destinations: those to transfer/%s are taken, those to others, "
-           "as transfer/%s, are passed over; write counterparty_port and counterparty_channel, beside port and channel, into the setup's path, so that they decide\n")
-FRESH = ("notice NothingFresh at hub-on-zone: its consensus states are due for a refresh by the window's end, and no header of hub-4 is young enough for it, so that "
-         f"none is planned; fetch /commit and /validators of later heights{INTO}hub-4\n")
-PACKETS = ("notice TooManyPackets at transfers: %d of its packets, from %d on, are left out, since a path holds 4,096; if all packets before %d are "
-           "finished, give the path first = %d in the setup\n")
-CHANNEL = "notice OtherChannel at transfers: the answers tell of packets of transfer/channel-0, none of transfer/channel-9; see the path's port and channel\n"
-MISSING_SETS = ("notice MissingSets at %s %d: %d headers, this the highest, are left out, since no answers have all validators of their sets; fetch all pages of "
-                "/validators?height=%d&per_page=100 into files *.json of the folder %s\n")
-UNSIGNED = ("notice UnsignedHeaders at %s %d: %d headers, this the highest, are left out, since the votes that count for them are not more than two thirds of their "
-            "validators' power; fetch /commit?height=%d again, from another node if it stays; with --verified run tools/verify_commits first\n")
-UNCHECKED = ("notice UnverifiedCommits at %s: its folder has no verdicts.json, so that signatures count as the node gave them; run tools/verify_commits, and import with "
-             "--verified\n")
-NO_HEADERS = ("notice MissingHeaders at hub-4: no header of it is written, so that there is nothing to update to; fetch /commit and /validators of some heights"
-              f"{INTO}hub-4\n")
-LACKS = {"MissingSend": ("no answer has the packet's send_packet", "/tx_search with it (where the node keeps it no more, set the path's `first` above the packet)"),
-         "MissingReceive": ("no answer has the packet's recv_packet", "/tx_search with it"),
-         "MissingReceipt": ("no answer tells whether the packet was received", "unreceived_packets of the destination, with this packet among them,")}
-
-
-def lacking(name, sequence, file):
-    """The line of a packet that is left out; a file of the path's folder tells of it."""
-    words, remedy = LACKS[name]
-    return (f"notice {name} at transfers {sequence}: {{folder}}/transfers/{file}.json: {words}, so that it is left out, on an ordered path with those behind it; "
-            f"fetch {remedy}{INTO}transfers\n")
-
-
-MORE = "notice MorePackets at transfers %d: %d more packets, this the first, are left out alike\n"
-
-
 def unseen(count):
     """The change that adds so many packets with commitments, from 1001 on, of whose sending no answer tells, and the lines that tell of the first 100, and of the others."""
     sequences = range(1001, 1001 + count)
     lines = [lacking("MissingSend", sequence, "commitments-1") for sequence in sequences[:100]]
-    return pending([3, *sequences], unreceived=[3, *sequences]), lines + ([MORE % (1101, count - 100)] if count > 100 else [])
+    return pending([3, *sequences], unreceived=[3, *sequences]), lines + ([MORE_PACKETS % (1101, count - 100)] if count > 100 else [])
 
 
 WARNING = "# Signatures were not verified: headers and votes stand as the nodes gave them.\n"
-SETTING, FROM, UNTIL = "drift_ns = 7\n", "12:09:20Z", "12:09:30Z"
-PATH_GAS = "gas = [5, 5, 5]\n"
 ORDERED = swapped('"unordered"', '"ordered"')
-NAMED, BOTH_NAMED, MISNAMED = (swapped(PATH_GAS, PATH_GAS + ends) for ends in (SOURCE, ENDS, SOURCE.replace("channel-0", "channel-9")))
 NO_RECORD = edited(STORED_FILE, put("consensus_states", []))
 NOTHING_FOUND = written(RECEIVED_FILE, '{"result": {"txs": [], "total_count": "0"}}')
 # the setup by its number, its change and that of the folder, after which the script is written all the same, and the lines that tell why updates
 # may be missed; header 80 is of 12:08:32.803238123
 NOTICES = [
-    (0, str, in_turn(removed("hub-4/commit-1.json"), edited(STORED_FILE, put(f"{CONSENSUS}.consensus_state.next_validators_hash", "00" * 32))), [NEXT_SET % (1, 2)]),
-    (0, str, lambda folder: [file.unlink() for file in (folder / "hub-4").glob("*.json")], [NO_HEADERS]),
+    (0, str, in_turn(removed("hub-4/commit-1.json"), edited(STORED_FILE, put(f"{CONSENSUS}.consensus_state.next_validators_hash", "00" * 32))), [MISSING_NEXT_SET % (1, 2)]),
+    (0, str, lambda folder: [file.unlink() for file in (folder / "hub-4").glob("*.json")], [MISSING_HEADERS]),
     # of the pages of consensus states that `want` names one is lost; files of other names count as pages
-    (0, str, moved(STORED_FILE, "hub-on-zone/consensus_states-3.json"), [PAGE % 1]),
-    (0, str, in_turn(moved(STORED_FILE, "hub-on-zone/consensus_states-1.json", copy=True), moved(STORED_FILE, "hub-on-zone/consensus_states-3.json")), [PAGE % 2]),
+    (0, str, moved(STORED_FILE, "hub-on-zone/consensus_states-3.json"), [MISSING_STATES % 1]),
+    (0, str, in_turn(moved(STORED_FILE, "hub-on-zone/consensus_states-1.json", copy=True), moved(STORED_FILE, "hub-on-zone/consensus_states-3.json")), [MISSING_STATES % 2]),
     (0, str, moved(STORED_FILE, "hub-on-zone/consensus_states-2.json", copy=True), []),
     # a header whose set no height's pages make is left out, alone; with it a goal goes, and what would be sent from the record below it
     (0, str, removed("hub-4/validators-80-2.json"), []),
     (0, str, removed(PAGE_FILE, "hub-4/validators-80-2.json"), []),
     (0, str, edited(PAGE_FILE, put("result.block_height", "79")), []),
-    (0, str, lambda folder: [file.unlink() for file in (folder / "hub-4").glob("validators-*.json")], [NO_HEADERS]),
-    (0, str, in_turn(removed("hub-4/validators-80-2.json"), edited(STORED_FILE, gone("consensus_states[1]"))), [GOAL % (80, "at or above the goal's", 80, 80), LATEST % 80]),
+    (0, str, lambda folder: [file.unlink() for file in (folder / "hub-4").glob("validators-*.json")], [MISSING_HEADERS]),
+    (0, str, in_turn(removed("hub-4/validators-80-2.json"), edited(STORED_FILE, gone("consensus_states[1]"))), [UNSEEN_GOAL % (80, "at or above the goal's", 80, 80), MISSING_LATEST % 80]),
     # all pages of another height make the set of a header of which a page isn't there
     (0, str, in_turn(*(step for page in (1, 2) for step in (
         moved(f"hub-4/validators-80-{page}.json", f"hub-4/validators-60-{page}.json", copy=True),
@@ -474,41 +374,41 @@ NOTICES = [
     # headers that not more than two thirds of their sets signed, or nobody
     (0, str, edited(COMMIT_FILE, votes_for(0)), []),
     (0, str, edited(COMMIT_FILE, votes_for(-1)), []),
-    (0, str, in_turn(*(edited(f"hub-4/commit-{height}.json", votes_for(-1)) for height in (1, 80))), [NO_HEADERS]),
+    (0, str, in_turn(*(edited(f"hub-4/commit-{height}.json", votes_for(-1)) for height in (1, 80))), [MISSING_HEADERS]),
     # both: of the lower header no height has the set, and nobody signed the higher one
     *((number, str, in_turn(lambda folder: [file.unlink() for file in (folder / "hub-4").glob("validators-[12]-*.json")], edited(COMMIT_FILE, votes_for(-1))), lines)
-      for number, lines in ((0, [NO_HEADERS]), (1, [NO_HEADERS]))),
-    (0, str, edited(STORED_FILE, many), [NEXT_SET % (30, 32)]),
-    (0, str, edited(STATE_FILE, put(f"{STATE}.latest_height.revision_height", "79")), [LATEST % 79]),
-    (0, str, in_turn(edited(STORED_FILE, many), edited(STATE_FILE, put(f"{STATE}.latest_height.revision_height", "81"))), [NEXT_SET % (30, 32), LATEST % 81]),
+      for number, lines in ((0, [MISSING_HEADERS]), (1, [MISSING_HEADERS]))),
+    (0, str, edited(STORED_FILE, many), [MISSING_NEXT_SET % (30, 32)]),
+    (0, str, edited(STATE_FILE, put(f"{STATE}.latest_height.revision_height", "79")), [MISSING_LATEST % 79]),
+    (0, str, in_turn(edited(STORED_FILE, many), edited(STATE_FILE, put(f"{STATE}.latest_height.revision_height", "81"))), [MISSING_NEXT_SET % (30, 32), MISSING_LATEST % 81]),
     (0, str, edited(COMMIT_FILE, put("result.canonical", False)), [NOT_CANONICAL % (80, 1, 80)]),
     (0, str, in_turn(*(edited(f"hub-4/commit-{height}.json", put("result.canonical", False)) for height in (1, 80))), [NOT_CANONICAL % (80, 2, 80)]),
     (0, str, edited("hub-4/commit-1.json", put("result.canonical", False)), [NOT_CANONICAL % (1, 1, 1)]),
     (0, str, edited(COMMIT_FILE, gone("result.canonical")), []),
-    (0, swapped("at_least = 80", "at_least = 81"), removed(), [GOAL % (81, "at or above the goal's", 81, 81)]),
-    (0, swapped("at_least = 80", "exactly = 79"), removed(), [GOAL % (79, "at the goal's", 79, 79)]),
+    (0, swapped("at_least = 80", "at_least = 81"), removed(), [UNSEEN_GOAL % (81, "at or above the goal's", 81, 81)]),
+    (0, swapped("at_least = 80", "exactly = 79"), removed(), [UNSEEN_GOAL % (79, "at the goal's", 79, 79)]),
     (0, str, removed(COMMIT_FILE), []),  # height 80 is stored
     (0, str, padded(COMMIT_FILE, 2**24), []),
     # the lowest set is the highest one again: it stands where it was seen first
     (0, str, in_turn(*(step for page in (1, 2) for step in (
         moved(f"hub-4/validators-1-{page}.json", f"hub-4/validators-90-{page}.json", copy=True),
         edited(f"hub-4/validators-90-{page}.json", put("result.block_height", "90"))))), []),
-    (0, str, in_turn(removed(COMMIT_FILE), edited(STORED_FILE, gone("consensus_states[1]"))), [GOAL % (80, "at or above the goal's", 80, 80), LATEST % 80]),
-    (0, swapped(SETTING, SETTING + "period_ns = 1\n"), removed(), [EXPIRED % "all 2 stored consensus states have expired at the window's end"]),
+    (0, str, in_turn(removed(COMMIT_FILE), edited(STORED_FILE, gone("consensus_states[1]"))), [UNSEEN_GOAL % (80, "at or above the goal's", 80, 80), MISSING_LATEST % 80]),
+    (0, swapped(SETTING, SETTING + "period_ns = 1\n"), removed(), [NOTHING_TRUSTED % "all 2 stored consensus states have expired at the window's end"]),
     (0, swapped(SETTING, SETTING + "period_ns = 563_000_000_000\n"), removed(), []),  # record 80 is trusted until 12:17:55.8
     # record 80 is trusted to the window's end, and a nanosecond longer
-    (0, swapped(SETTING, SETTING + "period_ns = 57_196_761_877\n"), removed(), [EXPIRED % "all 2 stored consensus states have expired at the window's end", FRESH]),
-    (0, swapped(SETTING, SETTING + "period_ns = 57_196_761_878\n"), removed(), [FRESH]),
-    (0, swapped(SETTING, SETTING + "period_ns = 1\n"), edited(STORED_FILE, gone("consensus_states[0]")), [EXPIRED % "its stored consensus state has expired at the window's end"]),
-    (0, str, NO_RECORD, [EXPIRED % "it has stored no consensus state", LATEST % 80]),
-    (0, swapped(FROM, "12:08:32Z"), removed(), [FUTURE % (80, 1)]),
-    (0, swapped(FROM, "12:00:01Z"), removed(), [FUTURE % (1, 2)]),
+    (0, swapped(SETTING, SETTING + "period_ns = 57_196_761_877\n"), removed(), [NOTHING_TRUSTED % "all 2 stored consensus states have expired at the window's end", NOTHING_FRESH]),
+    (0, swapped(SETTING, SETTING + "period_ns = 57_196_761_878\n"), removed(), [NOTHING_FRESH]),
+    (0, swapped(SETTING, SETTING + "period_ns = 1\n"), edited(STORED_FILE, gone("consensus_states[0]")), [NOTHING_TRUSTED % "its stored consensus state has expired at the window's end"]),
+    (0, str, NO_RECORD, [NOTHING_TRUSTED % "it has stored no consensus state", MISSING_LATEST % 80]),
+    (0, swapped(FROM, "12:08:32Z"), removed(), [FUTURE_HEADERS % (80, 1)]),
+    (0, swapped(FROM, "12:00:01Z"), removed(), [FUTURE_HEADERS % (1, 2)]),
     (0, swapped(FROM, "12:08:33Z"), removed(), []),
     # at the window's end header 80 is 57.2 seconds old
-    (0, swapped(SETTING, SETTING + "refresh_ns = 57_000_000_000\n"), removed(), [FRESH]),
+    (0, swapped(SETTING, SETTING + "refresh_ns = 57_000_000_000\n"), removed(), [NOTHING_FRESH]),
     (0, swapped(SETTING, SETTING + "refresh_ns = 58_000_000_000\n"), removed(), []),
-    (0, swapped(SETTING, SETTING + "refresh_ns = 1\n"), NO_RECORD, [EXPIRED % "it has stored no consensus state", LATEST % 80]),
-    (1, str, saved(*packet_txs(OURS, *((40, "send_packet", sequence) for sequence in range(100, 4195)))), [PACKETS % (2, 4193, 3, 3)]),
+    (0, swapped(SETTING, SETTING + "refresh_ns = 1\n"), NO_RECORD, [NOTHING_TRUSTED % "it has stored no consensus state", MISSING_LATEST % 80]),
+    (1, str, saved(*packet_txs(OURS, *((40, "send_packet", sequence) for sequence in range(100, 4195)))), [TOO_MANY_PACKETS % (2, 4193, 3, 3)]),
     (1, str, edited(RECEIVED_FILE, put(f"{TX}.tx_result.code", 11)), []),  # what failed did nothing
     # of one packet several events: both searches saved, and messages that were relayed once more, before and after
     (1, str, moved(RECEIVED_FILE, "transfers/acknowledged.json", copy=True), []),
@@ -522,19 +422,19 @@ NOTICES = [
     (1, NAMED, saved(*packet_txs(OTHER, (20, "recv_packet", 2), (36, "recv_packet", 3), (37, "recv_packet", 900)), *packet_txs(("channel-4", "channel-7"), (38, "recv_packet", 4))), []),
     # packets that the destination's chain sent on its own channel of that name, in files before and after those of the path's; and on another one
     (1, BOTH_NAMED, saved(*packet_txs(OTHER, *FORWARDED)), []),
-    (1, str, saved(*packet_txs(OTHER, *FORWARDED)), [SEVERAL % ("channel-3", "channel-7")]),
+    (1, str, saved(*packet_txs(OTHER, *FORWARDED)), [SEVERAL_COUNTERPARTIES % ("channel-3", "channel-7")]),
     # a channel whose name steers a terminal, and one of a long name
-    (1, str, saved(*packet_txs(("channel-0", "\x1b[1m\x00\u202e\x7f"), *FORWARDED)), [SEVERAL % ("\\u{1b}[1m\\u{0}\\u{202e}\\u{7f}", "channel-7")]),
-    (1, NAMED, written("transfers/zone.json", json.dumps(answers.search(*packet_txs(OTHER, *FORWARDED)))), [SEVERAL % ("channel-7", "channel-3")]),
+    (1, str, saved(*packet_txs(("channel-0", "\x1b[1m\x00\u202e\x7f"), *FORWARDED)), [SEVERAL_COUNTERPARTIES % ("\\u{1b}[1m\\u{0}\\u{202e}\\u{7f}", "channel-7")]),
+    (1, NAMED, written("transfers/zone.json", json.dumps(answers.search(*packet_txs(OTHER, *FORWARDED)))), [SEVERAL_COUNTERPARTIES % ("channel-7", "channel-3")]),
     (1, NAMED, in_turn(removed(RECEIVED_FILE), saved(*packet_txs(OTHER, *FORWARDED))), [
-        lacking("MissingReceipt", 2, "more"), lacking("MissingReceipt", 900, "more"), UNSEARCHED % "recv_packet", SEVERAL % ("channel-3", "channel-7")]),
+        lacking("MissingReceipt", 2, "more"), lacking("MissingReceipt", 900, "more"), MISSING_SEARCHES % "recv_packet", SEVERAL_COUNTERPARTIES % ("channel-3", "channel-7")]),
     (1, NAMED, saved(*packet_txs(("channel-4", "channel-3"), *FORWARDED)), []),
     # pending packets alone are written, and `first` is the least of them; searches for others needn't be there
     (1, BOTH_NAMED, in_turn(pending([3], unreceived=[3], acknowledged=[]), removed(RECEIVED_FILE, CLEARED_FILE)), []),
     (1, str, pending([2], [3], unreceived=[3], acknowledged=[2]), []),
     (1, NAMED, pending([], unreceived=[]), []),
     (1, swapped(PATH_GAS, PATH_GAS + "first = 3\n" + ENDS), pending([3, 2, 1], unreceived=[3]), []),
-    (1, str, in_turn(pending([3]), removed(RECEIVED_FILE)), [lacking("MissingReceipt", 3, "sent"), UNSEARCHED % "recv_packet"]),
+    (1, str, in_turn(pending([3]), removed(RECEIVED_FILE)), [lacking("MissingReceipt", 3, "sent"), MISSING_SEARCHES % "recv_packet"]),
     (1, str, in_turn(pending([3]), NOTHING_FOUND), [lacking("MissingReceipt", 3, "sent")]),
     # a path that has no packet with a commitment lacks no search
     (1, str, in_turn(pending([]), removed(SENT_FILE, RECEIVED_FILE, CLEARED_FILE)), []),
@@ -548,10 +448,10 @@ NOTICES = [
        [lacking("MissingReceive", 20, "commitments-1")]) for order in (str, ORDERED)),
     *((1, order, in_turn(pending([20, 21, 22]), saved(*packet_txs(OURS, *((40, "send_packet", s) for s in (20, 21, 22)), (41, "recv_packet", 20)))),
        [lacking("MissingReceipt", s, "more") for s in ((21, 22) if order is str else (21,))]) for order in (str, ORDERED)),
-    (1, str, removed(SENT_FILE), [lacking("MissingSend", 1, "cleared"), lacking("MissingSend", 2, "received"), UNSEARCHED % "send_packet"]),
-    (1, ORDERED, removed(SENT_FILE), [lacking("MissingSend", 1, "cleared"), UNSEARCHED % "send_packet"]),
+    (1, str, removed(SENT_FILE), [lacking("MissingSend", 1, "cleared"), lacking("MissingSend", 2, "received"), MISSING_SEARCHES % "send_packet"]),
+    (1, ORDERED, removed(SENT_FILE), [lacking("MissingSend", 1, "cleared"), MISSING_SEARCHES % "send_packet"]),
     (1, str, edited(RECEIVED_FILE, gone(f"{TX}.tx_result.events[1]")), [
-        lacking("MissingReceive", 2, "received"), lacking("MissingReceipt", 3, "sent"), UNSEARCHED % "recv_packet"]),
+        lacking("MissingReceive", 2, "received"), lacking("MissingReceipt", 3, "sent"), MISSING_SEARCHES % "recv_packet"]),
     (1, str, edited(RECEIVED_FILE, put(f"{PACKET}[3].value", "9")), [lacking("MissingReceive", 2, "received"), lacking("MissingSend", 9, "received")]),
     (1, str, saved(answers.transaction(36, answers.packet_event("recv_packet", 9, 0))), [lacking("MissingSend", 9, "more")]),
     (1, str, pending([3, 77]), [lacking("MissingReceipt", 3, "sent"), lacking("MissingSend", 77, "commitments-1")]),
@@ -560,11 +460,11 @@ NOTICES = [
     # of an unordered path that leaves out many packets the first 100 are told one by one, the others by their number; of an ordered one the first
     *((1, str, *unseen(count)) for count in (99, 100, 101, 102, 1_000)),
     *((1, ORDERED, change, lines[:1]) for change, lines in (unseen(101),)),
-    (1, ORDERED, edited(RECEIVED_FILE, gone(f"{TX}.tx_result.events[1]")), [lacking("MissingReceive", 2, "received"), UNSEARCHED % "recv_packet"]),
+    (1, ORDERED, edited(RECEIVED_FILE, gone(f"{TX}.tx_result.events[1]")), [lacking("MissingReceive", 2, "received"), MISSING_SEARCHES % "recv_packet"]),
     (1, str, in_turn(pending([1, 2], unreceived=[1]), saved(*packet_txs(OURS, (58, "acknowledge_packet", 2)))), []),
     # a setup that names another source than that of the packets; and such answers that tell of none, or of one from it
-    (1, MISNAMED, removed(), [CHANNEL]),
-    (1, MISNAMED, in_turn(removed(SENT_FILE, CLEARED_FILE), NOTHING_FOUND), [UNSEARCHED % "send_packet, recv_packet, acknowledge_packet or timeout_packet"]),
+    (1, MISNAMED, removed(), [OTHER_CHANNEL]),
+    (1, MISNAMED, in_turn(removed(SENT_FILE, CLEARED_FILE), NOTHING_FOUND), [MISSING_SEARCHES % "send_packet, recv_packet, acknowledge_packet or timeout_packet"]),
     (1, MISNAMED, saved(*packet_txs(("channel-9", "channel-7"), (38, "send_packet", 4))), []),
     # timeout heights of other revisions than the destination's, and above all heights
     (1, str, saved(*sent_until("1-18446744073709551615", "1-9223372036854775808", "1-9223372036854775807", "2-4000", "18446744073709551615-1", "0-4000", "1-0", "1-1")), []),
@@ -576,20 +476,14 @@ NOTICES = [
         put(f"{CONSENSUS}.consensus_state", True), gone(f"{CONSENSUS}.consensus_state"), put(f"{CONSENSUS}.consensus_state.timestamp", "yesterday"),
         put(f"{CONSENSUS}.consensus_state.root.hash", "="), put(f"{CONSENSUS}.consensus_state.next_validators_hash", ""),
         gone(f"{CONSENSUS}.height.revision_number"))),
-    (1, str, removed(RECEIVED_FILE), [lacking("MissingReceipt", 3, "sent"), UNSEARCHED % "recv_packet"]),
-    (1, str, removed(SENT_FILE, RECEIVED_FILE, CLEARED_FILE), [UNSEARCHED % "send_packet, recv_packet, acknowledge_packet or timeout_packet"]),
-    (1, str, in_turn(removed(SENT_FILE, CLEARED_FILE), NOTHING_FOUND), [UNSEARCHED % "send_packet, recv_packet, acknowledge_packet or timeout_packet"]),
+    (1, str, removed(RECEIVED_FILE), [lacking("MissingReceipt", 3, "sent"), MISSING_SEARCHES % "recv_packet"]),
+    (1, str, removed(SENT_FILE, RECEIVED_FILE, CLEARED_FILE), [MISSING_SEARCHES % "send_packet, recv_packet, acknowledge_packet or timeout_packet"]),
+    (1, str, in_turn(removed(SENT_FILE, CLEARED_FILE), NOTHING_FOUND), [MISSING_SEARCHES % "send_packet, recv_packet, acknowledge_packet or timeout_packet"]),
     (1, str, NOTHING_FOUND, []),
 ]
 
 
-UNVERIFIED = ("notice NotVerified at %s: verdicts.json has no verdict on the commits of %d headers, so that their signatures were not verified; "
-              "run tools/verify_commits again\n")
-PASSED = "notice PassedOver at %s: answers that aren't needed: %s\n"
 VERDICTS_ELSEWHERE = "1 of verdicts (they count only in verdicts.json)"
-CHAIN_QUERIES = {"/status": {"node_info": {}, "sync_info": {"latest_block_height": "81"}}, "/block_results": {"height": "80", "txs_results": None},
-                 "/blockchain": {"last_height": "80", "block_metas": []}, "/block": {"block_id": {}, "block": {"header": {}}}, "/header": {"header": {}},
-                 "/tx": {"hash": "00", "height": "7", "tx_result": {"code": 0}}}
 CLIENT_QUERIES = {"consensus_states/ID/heights": {"consensus_state_heights": [], "pagination": {}}, "client_status/ID": {"status": "Active"},
                   "consensus_states/ID/revision/R/height/H": {"consensus_state": {}, "proof": None, "proof_height": {}}}
 
@@ -598,10 +492,6 @@ def beside(queries, folder, copies=1, wrap=lambda answer: answer):
     """The change that adds so many answers to each of these queries."""
     return in_turn(*(written(f"{folder}/beside-{number}-{copy}.json", json.dumps(wrap(answer)))
                      for number, answer in enumerate(queries.values()) for copy in range(copies)))
-
-
-def in_result(answer):
-    return {"jsonrpc": "2.0", "id": -1, "result": answer}
 
 
 # as NOTICES: verdicts, with the line that the script begins with; and answers that aren't needed
@@ -616,13 +506,13 @@ OPENINGS = [
      "# signatures: 2 of 2 commits verified: 12 good, 0 bad, 0 not checkable; by ?[[turn]]??[1m??" + "x" * 300, []),
     # verdicts count in their file alone
     (in_turn(judged((1, [], [], 6), (80, [], [], 6)), moved(VERDICTS, "hub-4/again.json", copy=True)),
-     "# signatures: 2 of 2 commits verified: 12 good, 0 bad, 0 not checkable; by verify_commits 1 (made up)\n", [PASSED % ("hub-4", VERDICTS_ELSEWHERE)]),
-    (in_turn(judged((1, [], [], 6), (80, [], [], 6)), moved(VERDICTS, "hub-4/again.json")), WARNING, [PASSED % ("hub-4", VERDICTS_ELSEWHERE)]),
-    (in_turn(judged((1, [], [], 6), (80, [0, 1, 2, 3, 4, 5], [], 0)), moved(VERDICTS, "hub-4/commit-79.json")), WARNING, [PASSED % ("hub-4", VERDICTS_ELSEWHERE)]),
-    (beside(CHAIN_QUERIES, "hub-4", wrap=in_result), WARNING, [PASSED % ("hub-4", ", ".join(f"1 of {name}" for name in CHAIN_QUERIES))]),
-    (beside(CHAIN_QUERIES, "hub-4", copies=2), WARNING, [PASSED % ("hub-4", ", ".join(f"2 of {name}" for name in CHAIN_QUERIES))]),
+     "# signatures: 2 of 2 commits verified: 12 good, 0 bad, 0 not checkable; by verify_commits 1 (made up)\n", [PASSED_OVER % ("hub-4", VERDICTS_ELSEWHERE)]),
+    (in_turn(judged((1, [], [], 6), (80, [], [], 6)), moved(VERDICTS, "hub-4/again.json")), WARNING, [PASSED_OVER % ("hub-4", VERDICTS_ELSEWHERE)]),
+    (in_turn(judged((1, [], [], 6), (80, [0, 1, 2, 3, 4, 5], [], 0)), moved(VERDICTS, "hub-4/commit-79.json")), WARNING, [PASSED_OVER % ("hub-4", VERDICTS_ELSEWHERE)]),
+    (beside(CHAIN_QUERIES, "hub-4", wrap=in_result), WARNING, [PASSED_OVER % ("hub-4", ", ".join(f"1 of {name}" for name in CHAIN_QUERIES))]),
+    (beside(CHAIN_QUERIES, "hub-4", copies=2), WARNING, [PASSED_OVER % ("hub-4", ", ".join(f"2 of {name}" for name in CHAIN_QUERIES))]),
     (beside(CLIENT_QUERIES, "hub-on-zone"), WARNING, [
-        PASSED % ("hub-on-zone", "1 of consensus_states/ID/heights, 1 of consensus_states/ID/revision/R/height/H, 1 of client_status/ID")]),
+        PASSED_OVER % ("hub-on-zone", "1 of consensus_states/ID/heights, 1 of consensus_states/ID/revision/R/height/H, 1 of client_status/ID")]),
 ]
 
 
@@ -797,3 +687,22 @@ def import_cases(top, seeds):
     yield from spoiled_cases(top)
     yield from taken_cases(top)
     yield from opening_cases(top)
+
+
+def chain_cases(top, program):
+    """`import` and `plan` in a row by a shell; at last over what the relayer's `fetch` got of made-up nodes, also of one without JSON-RPC's envelope."""
+    words = " ".join(map(shlex.quote, program))
+    folders = [(top / f"seed-{seed}", top / f"setup-{seed}-0.toml", []) for seed in range(1, 21)]
+    folders += [(top / "fetched", top / "setup-4-0.toml", []), (top / "busy-1500", top / "busy-1500.toml", [TOO_MANY_SETS % (482, 0)])]
+    folders.append((top / "fetched-bare", top / "setup-4-0.toml", []))
+    for name, shape in ("fetched-bare", without_envelope), ("fetched", lambda answer: answer):
+        with answers.serve(random.Random(7), shape) as (rpc, rest):
+            fetch = fetching(top / f"{name}.toml", program[0], {"hub-4": (rpc, None), "zone-1": (None, rest)})
+            subprocess.run([*fetch, top / "setup-4-0.toml", top / name], check=True, capture_output=True)
+    for folder, setup, lines in folders:
+        enveloped = top / "fetched" if folder.name == "fetched-bare" else folder
+        toml = answers.in_toml(answers.script_of(setup.read_text(), enveloped))
+        report = reference.report(reference.read_script(toml)).encode()
+        line = f'{words} import "$0" "$1" | {words} plan -'
+        told = told_by(setup.read_text(), enveloped, lines)
+        yield ToldCase(f"import and plan of {folder.name}", ["sh", "-c", line, str(setup), str(folder)], b"", report, b"".join(told[:1]), 0, told=told)

@@ -3,17 +3,16 @@ import contextlib
 import hashlib
 import itertools
 import os
-import pathlib
 import re
 import resource
 import shutil
 import signal
 import subprocess
-import tempfile
 import time
 import tomllib
 
-from cases.follows import EXAMPLES, MARK, PATIENCE, TOP, answers_of, check, ended, followed, parts_of, run_in_pieces, scripts, value_text
+from lib.following import MARK, PATIENCE, answers_of, check, ended, followed, parts_of, run_in_pieces, scripts, value_text
+from lib.program import EXAMPLES
 
 END = b"# ---\n"
 
@@ -373,11 +372,3 @@ def journal_runs(program, folder):
     """All runs with a journal: how many there were, and how many weren't as they have to be."""
     counts = [case(program, folder) for case in JOURNALS]
     return sum(runs for runs, _ in counts), sum(wrong for _, wrong in counts)
-
-
-if __name__ == "__main__":
-    import sys
-    with tempfile.TemporaryDirectory() as made:
-        count, missed = journal_runs(sys.argv[1:] or [str(TOP / "crates" / "ibcplan" / "out" / "ibcplan")], pathlib.Path(made))
-    print(f"{count} runs, {missed} wrong")
-    sys.exit(missed > 0)

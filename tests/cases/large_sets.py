@@ -1,16 +1,14 @@
 """Runs of `want`, `import` and `plan` in a row over made-up nodes whose chain has more validators than a page holds, and changes all of them at once, to and fro:
 when nothing is wanted any more, no client is left out, whatever the end is. Of a height whose set is there for another height `want` has the first page alone."""
 import json
-import pathlib
 import subprocess
-import sys
 import tomllib
 import urllib.parse
 
 from lib import answers
-from cases.imports import told_by
+from lib.importing import told_by
+from lib.long_chains import CLIENT, setup_of
 from lib.nodes import Host, LongChain
-from cases.wants import CLIENT, setup_of
 
 SIZES, CHANGE, STORED = (101, 200, 250), 30, [32, 43, 52]  # the set of heights 30 to 59 is there again from 90 on
 ROUNDS = 60  # more than any of these ends takes
@@ -110,19 +108,13 @@ def flaws_of(program, folder, size, name, blocks, goal, begin, is_refused, end, 
     return flaws + ([] if is_right else [f"planned to {heights}, and not to {reached}"])
 
 
-def large_set_runs(program, top, is_told=False):
+def large_set_runs(program, top):
     """How many runs there are, and how many go wrong."""
     wrong = 0
     for size in SIZES:
         for name, end in ENDS.items():
             flaws = flaws_of(program, top / f"large sets, {size}, {name}", size, name, *end)
-            if is_told or flaws:
+            if flaws:
                 print(f"== want and import, {size} validators, {name}", *flaws, sep="\n-- ")
             wrong += bool(flaws)
     return len(SIZES) * len(ENDS), wrong
-
-
-if __name__ == "__main__":  # tests/cases/large_sets.py PROGRAM
-    import tempfile
-    with tempfile.TemporaryDirectory() as path:
-        print(large_set_runs(sys.argv[1:], pathlib.Path(path), True))

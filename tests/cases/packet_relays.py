@@ -9,7 +9,7 @@ import time
 from lib.packets import chains as handlers
 from lib.program import CONTROL
 from lib.relaying.chains import BEGIN, Refusal
-from lib.relaying.channels import PacketChain
+from lib.relaying.channels import PacketChain, pending, told_of
 from lib.relaying.days import MOMENTS
 from lib.relaying.world import RELAYER, World
 
@@ -32,11 +32,6 @@ def whole_round(relayer):
     return report
 
 
-def pending(world):
-    """The packets that have commitments."""
-    return {name: chain.pending() for name, chain in world.chains.items() if chain.pending()}
-
-
 def rounds_until_done(world, relayer, most, blocks):
     """Rounds, with so many blocks before each, until no packet is pending."""
     for _ in range(most):
@@ -44,11 +39,6 @@ def rounds_until_done(world, relayer, most, blocks):
         whole_round(relayer)
         if not pending(world):
             return
-
-
-def told_of(world, kind):
-    """The sequences of an event's packets, as chains told of them."""
-    return [number for chain in world.chains.values() for _, event, number, _, _ in chain.events if event == kind]
 
 
 def transactions(world):

@@ -14,12 +14,12 @@ import subprocess
 import sys
 
 from lib import answers
+from lib.json_reading import read_json
 from lib.nodes import fetching, serve
 from lib.packets import chains as handlers
 from lib.relaying.chains import LightClient, Refusal
 from lib.relaying.channels import PacketChain
 from lib.relaying.serving import Source
-from cases.schema import read_json
 
 CLIENT, BACK = "07-tendermint-0", "07-tendermint-3"
 ENDS = {"hub-4": ("transfer", "channel-0"), "zone-1": ("transfer", "channel-7")}
@@ -353,21 +353,13 @@ RUNS = [
 ]
 
 
-def packet_way_runs(program, top, is_told=False, names=()):
+def packet_way_runs(program, top):
     """How many runs there are, and how many go wrong."""
     wrong, top = 0, top / "packet ways"
     top.mkdir()
     for name, run, words in RUNS:
-        if names and name not in names:
-            continue
         flaws = run(program, top, **words)
-        if is_told or flaws:
+        if flaws:
             print(f"== packets, {name}", *flaws, sep="\n-- ")
         wrong += bool(flaws)
     return len(RUNS), wrong
-
-
-if __name__ == "__main__":  # tests/cases/packet_ways.py PROGRAM [NAME..]
-    import tempfile
-    with tempfile.TemporaryDirectory() as path:
-        print(packet_way_runs(sys.argv[1:2], pathlib.Path(path), True, sys.argv[2:]))

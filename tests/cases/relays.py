@@ -2,22 +2,17 @@
 import contextlib
 import dataclasses
 import json
-import pathlib
 import random
-import resource
 import signal
 import socket
 import subprocess
-import sys
-import tempfile
 import time
 import urllib.request
 from unittest import mock
 
-from cases.packet_relays import PACKET_KINDS, pending, told_of
 from lib.program import CONTROL, STEERING
 from lib.relaying.chains import BEGIN, SIGNED, Refusal, past_update
-from lib.relaying.channels import PacketChain
+from lib.relaying.channels import PacketChain, pending, told_of
 from lib.relaying.days import MOMENTS, Days
 from lib.relaying.serving import GATEWAY_FAULTS, NODE_FAULTS
 from lib.relaying.world import PROGRAM, RELAYER, World
@@ -520,25 +515,4 @@ def processes(program, folder):
         return flaws + world.flaws()
 
 
-KINDS = [configurations, states, dry_round, plain_rounds, bad_nodes, bad_gateways, costly_nodes, one_chain_down, halted_chain, lagging_host, halts_behind_a_broadcast, behind, killed, transactions_fail, plan_fails, hundred_rounds, begun, watching, processes, *PACKET_KINDS]
-
-
-def relay_runs(program, top, is_told=False, kinds=KINDS):
-    """How many runs of the relayer there are, and how many go wrong."""
-    wrong = 0
-    for kind in kinds:
-        begin = resource.getrusage(resource.RUSAGE_CHILDREN).ru_utime + time.process_time()
-        flaws = kind(program[0], top / f"relay {kind.__name__}")
-        seconds = resource.getrusage(resource.RUSAGE_CHILDREN).ru_utime + time.process_time() - begin
-        if is_told or flaws:
-            print(f"== relayer: {kind.__name__}, {seconds:.1f} s of a processor", *flaws, sep="\n-- ", flush=True)
-        wrong += bool(flaws)
-    return len(kinds), wrong
-
-
-if __name__ == "__main__":  # tests/cases/relays.py PROGRAM [KIND..]
-    with tempfile.TemporaryDirectory() as path:
-        NODE_FAULTS[:] = [fault for fault in NODE_FAULTS if fault in sys.argv[2:]] or NODE_FAULTS
-        GATEWAY_FAULTS[:] = [fault for fault in GATEWAY_FAULTS if fault in sys.argv[2:]] or GATEWAY_FAULTS
-        wanted = [kind for kind in KINDS if kind.__name__ in sys.argv[2:]] or KINDS
-        print(relay_runs(sys.argv[1:2], pathlib.Path(path), True, wanted))
+KINDS = [configurations, states, dry_round, plain_rounds, bad_nodes, bad_gateways, costly_nodes, one_chain_down, halted_chain, lagging_host, halts_behind_a_broadcast, behind, killed, transactions_fail, plan_fails, hundred_rounds, begun, watching, processes]

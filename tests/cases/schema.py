@@ -1,4 +1,3 @@
-#!/usr/bin/env python3
 """What the program writes as JSON, held against schema/ibcplan.schema.json; and values with one flaw each, which the schema has to refuse.
 
     tests/cases/schema.py [PROGRAM WORD..]        of the rows and the examples; without words crates/ibcplan/out/ibcplan
@@ -8,33 +7,19 @@ import json
 import pathlib
 import random
 import subprocess
-import sys
-import tempfile
 import tomllib
 from collections.abc import Callable, Iterator
 
-sys.dont_write_bytecode = True
+from lib.json_reading import VALIDATOR
 from lib.json_schema import BadSchema, Validator
 
 TOP = pathlib.Path(__file__).resolve().parents[2]
-SCHEMA = TOP / "schema" / "ibcplan.schema.json"
-VALIDATOR = Validator(json.loads(SCHEMA.read_text()))
 MUTATED = 1000
 LARGE = 20_000  # bytes of a value that isn't changed, since that would take long
 
 Words = list[str]
 Value = dict[str, object]
 Place = tuple[str | int, ...]
-
-
-def read_json(text: str | bytes) -> object:
-    """A value that the program wrote; a ValueError where the schema refuses it."""
-    value = json.loads(text)
-    flaw = VALIDATOR.check(value)
-    if flaw is not None:
-        print(f"== {SCHEMA.name} refuses {text[:200]!r}\n-- {flaw}")
-        raise ValueError(flaw)
-    return value
 
 
 # ---- the validator itself
@@ -243,10 +228,3 @@ def schema_runs(program: Words, folder: pathlib.Path) -> tuple[int, int]:
             print(f"== the schema takes a {what}")
             wrong += 1
     return runs, wrong
-
-
-if __name__ == "__main__":
-    with tempfile.TemporaryDirectory() as made_folder:
-        count, missed = schema_runs(sys.argv[1:] or [str(TOP / "crates" / "ibcplan" / "out" / "ibcplan")], pathlib.Path(made_folder))
-    print(f"{count} values, {missed} wrong")
-    sys.exit(missed > 0)

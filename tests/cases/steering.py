@@ -5,10 +5,9 @@ import shutil
 
 from lib import answers
 from lib.answer_edits import CLEARED_FILE, COMMIT_FILE, PAGE_FILE, RECEIVED_FILE, SENT_FILE, STATE_FILE, STORED_FILE, VERDICTS, judged
-from cases.imports import BOTH_NAMED, CHAIN_QUERIES, in_result, setups
-from lib.program import STEERING, TOP, SafeCase
+from lib.importing import BOTH_NAMED, CHAIN_QUERIES, in_result, setups
+from lib.program import EXAMPLES, ROWS, STEERING, SafeCase
 
-EXAMPLES, ROWS = TOP / "examples", TOP / "tests" / "rows"
 ESCAPED = "".join(f"\\u{ord(c):04x}" for c in STEERING)
 BARE = STEERING[-4:]  # what TOML takes as it is: none of C0
 WORD = re.compile(r'"([^"\n]*)"|([A-Za-z_]+)(?=\]+\n| *=)')

@@ -2,39 +2,19 @@
 and whether what it saves plans as well as all heights would."""
 import contextlib
 import json
-import pathlib
 import re
 import shutil
 import subprocess
-import sys
 import tomllib
 import urllib.parse
 
-from lib import answers
-from lib import nodes
+from lib import answers, nodes
+from lib.judges import reference
+from lib.long_chains import BACK, CLIENT, FEE, HEAD, PACKETS, PATH, setup_of
 from lib.nodes import Host, LongChain, fetching, least_fee, serve
-from lib.program import CONTROL, TOP, Case
+from lib.program import CONTROL, Case
 
-sys.path.insert(0, str(TOP / "tests" / "reference"))
-import reference
-
-CLIENT, FEE = "07-tendermint-3", (118_400, 1_087, 771)
-HEAD = f'''version = 1
-chain = [{{ id = "hub-4" }}, {{ id = "zone-1" }}]
-[[client]]
-id = "{CLIENT}"
-host = "zone-1"
-of = "hub-4"
-fee = {list(FEE)}
-gas = [1, 0, 0]
-limits = [1_000_000, 100, 0]
-'''
 GATEWAY = "/ibc/core/client/v1"
-
-
-def setup_of(chain, goal):
-    begin, end = (f"{chain.time(chain.blocks) + later:%Y-%m-%dT%H:%M:%SZ}" for later in (nodes.BLOCK, 50 * nodes.BLOCK))
-    return f'{HEAD}[[turn]]\nfrom = "{begin}"\nuntil = "{end}"\n' + (f'goal = [{{ client = "{CLIENT}", {goal} }}]\n' if goal else "")
 
 
 def hosted(text, host):
@@ -123,31 +103,6 @@ def want_cases(top):
     state = folder / CLIENT / "client_state.json"
     state.write_text(state.read_text().replace('"revision_height": "0"', '"revision_height": "7"', 1))
     yield Case("want, a frozen client", ["want", str(setup), str(folder)], b"", b"", f"end {CLIENT}: it is frozen, or no Tendermint client\n".encode(), 0)
-
-
-BACK = "07-tendermint-9"
-PATH = f'''[[client]]
-id = "{BACK}"
-host = "hub-4"
-of = "zone-1"
-fee = {list(FEE)}
-gas = [1, 0, 0]
-limits = [1_000_000, 100, 0]
-[[path]]
-id = "transfers"
-source = "hub-4"
-dest = "zone-1"
-order = "unordered"
-forward = "{CLIENT}"
-back = "{BACK}"
-gas = [5, 5, 5]
-port = "transfer"
-channel = "channel-0"
-counterparty_port = "transfer"
-counterparty_channel = "channel-7"
-'''
-# the blocks that sent a packet, received it and wrote its acknowledgement
-PACKETS = {5: (60, 70, 70), 8: (61, 0, 0), 7: (62, 71, 75), 6: (63, 72, 0)}
 
 
 def about(end, rest, file):
@@ -482,7 +437,7 @@ def missing_flaws(program, folder):
     return flaws
 
 
-def run_fetches(program, top, is_told=False):
+def run_fetches(program, top):
     """Runs of the relayer's `fetch` with this program: how many there were, and how many didn't go as they have to."""
     wrong = 0
     for name, chain, stored, goal, height, most, updates in FETCHES:
@@ -507,20 +462,14 @@ def run_fetches(program, top, is_told=False):
             least = least_fee(chain, max(stored), last, range(1, chain.blocks), FEE)
             flaws += [f"{plan[0]} for {plan[1]}, and {least[0]} for {least[1]} over all heights"] if plan[0] > 1.03 * least[0] else []
             name += f", {plan[0] / least[0] - 1:.2%} above the least"
-        if is_told or flaws:
+        if flaws:
             print(f"== fetch, {name}: {len(asked)} requests, {len(plan[1]) if plan else 'no'} updates", *flaws, sep="\n-- ")
         wrong += bool(flaws)
         shutil.rmtree(folder)
     for name, flaws_of in ("a height refused", refusal_flaws), ("two clients of one chain", shared_flaws), ("a busy node", busy_flaws), ("packets", packet_flaws), ("times", time_flaws), \
             ("lost pages", lost_page_flaws), ("renamed pages", renamed_page_flaws), ("missing sources", missing_flaws):
         flaws = flaws_of(program, top / f"fetch, {name}")
-        if is_told or flaws:
+        if flaws:
             print(f"== fetch, {name}", *flaws, sep="\n-- ")
         wrong += bool(flaws)
     return len(FETCHES) + 8, wrong
-
-
-if __name__ == "__main__":  # tests/cases/wants.py PROGRAM
-    import tempfile
-    with tempfile.TemporaryDirectory() as path:
-        print(run_fetches(sys.argv[1], pathlib.Path(path), True))

@@ -1,20 +1,18 @@
 """The way from nodes that README shows, for tests/run: `setup --hermes`, the relayer's `fetch`, `import`, `plan`, `messages` and `commands` in a row, each of which
 reads what the one before wrote, over made-up nodes. What each writes is made a second time; and at the end the messages and the commands send the plan's updates."""
 import contextlib
-import pathlib
 import re
 import subprocess
-import sys
 import tomllib
 
-from lib import answers
-from lib import nodes
-from cases import setups
-from cases.messages import run_messages, sent_in
+from lib import answers, nodes
+from lib.encoding import run_messages, sent_in
+from lib.json_reading import read_json
+from lib.judges import reference
+from lib.long_chains import BACK, CLIENT, PACKETS, PATH
 from lib.nodes import Host, LongChain, serve
-from cases.outputs import commands_of
-from cases.schema import read_json
-from cases.wants import BACK, CLIENT, PACKETS, PATH, reference
+from lib.outputs import commands_of
+from cases import setups
 
 HUB, ZONE = f"zone-1.{CLIENT}", f"hub-4.{BACK}"  # the clients of the hub and of the zone, as `setup` names them
 WORDS = [f"zone-1:{CLIENT}:hub-4", f"hub-4:{BACK}:zone-1"]
@@ -99,18 +97,12 @@ def way_flaws(program, folder, hub, stored, before, behind, updates, packets):
     return flaws + ([] if sorted(lines) == sorted(wanted + packets) else [f"the commands send {lines}, and not {wanted + packets}"])
 
 
-def way_runs(program, top, is_told=False):
+def way_runs(program, top):
     """How many runs of the whole way there are, and how many go wrong."""
     wrong = 0
     for name, *way in WAYS:
         flaws = way_flaws(program, top / f"way with {name}", *way)
-        if is_told or flaws:
+        if flaws:
             print(f"== from nodes to messages and commands, with {name}", *flaws, sep="\n-- ")
         wrong += bool(flaws)
     return len(WAYS), wrong
-
-
-if __name__ == "__main__":  # tests/cases/ways.py PROGRAM
-    import tempfile
-    with tempfile.TemporaryDirectory() as path:
-        print(way_runs(sys.argv[1:], pathlib.Path(path), True))

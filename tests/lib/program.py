@@ -9,6 +9,8 @@ import subprocess
 from typing import Callable
 
 TOP = pathlib.Path(__file__).resolve().parents[2]
+EXAMPLES, ROWS, CERTIFICATES = TOP / "examples", TOP / "tests" / "rows", TOP / "tests" / "certificates"
+WORKERS = ([], ["--workers", "2"], ["--workers", "8"], ["--workers", "64"])  # of `run`
 
 
 @dataclasses.dataclass

@@ -8,14 +8,10 @@ import dataclasses
 import functools
 import hashlib
 import random
-import sys
 from typing import Callable
 
-from lib.program import TOP
-from lib.script_text import LATER, a_set, chain, follower, goal, header, key, members, packet, path, settled, stored, time, turn
-
-sys.path.insert(0, str(TOP / "tests" / "reference"))
-from scripts import ValidatorSet
+from lib.judges import scripts
+from lib.script_text import LATER, a_set, chain, follower, goal, header, key, members, packet, path, settled, stored, turn
 
 SECOND = 10**9  # nanoseconds
 FAR = 10**9  # a height above all others
@@ -73,7 +69,7 @@ def falling(size=500, chains=8):
 
 
 def set_hash(number):
-    return ValidatorSet([(bytes.fromhex(key(0)), power_of(number))]).hash.hex()
+    return scripts.ValidatorSet([(bytes.fromhex(key(0)), power_of(number))]).hash.hex()
 
 
 def tables(size=1024, chains=28, late="", turns=1):

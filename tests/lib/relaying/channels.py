@@ -150,3 +150,13 @@ class PacketChain(Chain):
 def sequences(values, prefix):
     """The sequences of the keys below a channel's key."""
     return [int(key.rsplit(b"/", 1)[1]) for key in values if key.startswith(prefix + b"/")]
+
+
+def pending(world):
+    """The packets that have commitments."""
+    return {name: chain.pending() for name, chain in world.chains.items() if chain.pending()}
+
+
+def told_of(world, kind):
+    """The sequences of an event's packets, as chains told of them."""
+    return [number for chain in world.chains.values() for _, event, number, _, _ in chain.events if event == kind]
