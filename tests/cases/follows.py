@@ -334,9 +334,3 @@ def client_runs(program, folder):
 
 
 FOLLOWS = script_runs, unlabelled_runs, live_runs, first_document_runs, number_runs, greeting_runs, quiet_runs, client_runs, end_runs, fault_runs, failure_runs
-
-
-def follow_runs(program, folder):
-    """All runs of `follow`: how many there were, and how many weren't as they have to be."""
-    counts = [case(program, folder) for case in FOLLOWS]
-    return sum(runs for runs, _ in counts), sum(wrong for _, wrong in counts)

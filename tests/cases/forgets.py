@@ -537,9 +537,3 @@ def entry_runs(program, folder):
 
 
 FORGETS = height_runs, needed_runs, window_runs, store_runs, packet_runs, front_runs, entry_runs, journal_runs
-
-
-def forget_runs(program, folder):
-    """All runs of what is forgotten: how many there were, and how many weren't as they have to be."""
-    counts = [case(program, folder) for case in FORGETS]
-    return sum(runs for runs, _ in counts), sum(wrong for _, wrong in counts)

@@ -366,9 +366,3 @@ def client_runs(program, folder):
 
 
 JOURNALS = refusal_runs, long_runs, gone_runs, full_runs, whole_runs, cut_runs, flip_runs, plain_runs, kill_runs, write_runs, client_runs
-
-
-def journal_runs(program, folder):
-    """All runs with a journal: how many there were, and how many weren't as they have to be."""
-    counts = [case(program, folder) for case in JOURNALS]
-    return sum(runs for runs, _ in counts), sum(wrong for _, wrong in counts)

@@ -1,5 +1,4 @@
 """Runs of `setup`, for tests/run: what it writes is made here of the configuration; `want` reads the setup as a setup."""
-
 from lib.hermes import setup_of
 from lib.program import TOP, Case
 

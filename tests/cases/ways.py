@@ -5,14 +5,13 @@ import re
 import subprocess
 import tomllib
 
-from lib import answers, nodes
+from lib import answers, hermes, nodes
 from lib.encoding import run_messages, sent_in
 from lib.json_reading import read_json
 from lib.judges import reference
 from lib.long_chains import BACK, CLIENT, PACKETS, PATH
 from lib.nodes import Host, LongChain, serve
 from lib.outputs import commands_of
-from cases import setups
 
 HUB, ZONE = f"zone-1.{CLIENT}", f"hub-4.{BACK}"  # the clients of the hub and of the zone, as `setup` names them
 WORDS = [f"zone-1:{CLIENT}:hub-4", f"hub-4:{BACK}:zone-1"]
@@ -53,7 +52,7 @@ def way_flaws(program, folder, hub, stored, before, behind, updates, packets):
         rest = {chain: stack.enter_context(serve(gateway.answer, asked[f"the gateway of {chain}"])) for chain, gateway in gateways.items()}
         (folder / "config.toml").write_text(config_of(rpc))
         text, flaws = written_by(program, "setup", "--hermes", folder / "config.toml", *WORDS)
-        flaws += [] if text == setups.setup_of(config_of(rpc), WORDS) else [f"another setup: {text}"]
+        flaws += [] if text == hermes.setup_of(config_of(rpc), WORDS) else [f"another setup: {text}"]
         # by hand: the window, the goals or the channel, and the gateways
         begin, end = (f"{hub.time(hub.blocks) + later:%Y-%m-%dT%H:%M:%SZ}" for later in (nodes.BLOCK, 50 * nodes.BLOCK))
         text = text.replace("FROM", begin).replace("UNTIL", end).replace("[[turn]]", f"{before}[[turn]]") + behind

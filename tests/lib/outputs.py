@@ -6,6 +6,7 @@ import tomllib
 from lib.judges import reference
 from lib.program import EXAMPLES, ROWS
 
+
 @functools.cache
 def expiries(text):
     """Of each client of a script after its last turn: the client, its newest stored height, when that expires, and the window's end, in nanoseconds; none
