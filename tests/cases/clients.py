@@ -1,6 +1,4 @@
-"""The clients for authors of relayers, each by the tests in its own language, where that is at hand; and the example in Rust, which faults and a kill stop.
-
-    tests/cases/clients.py [PROGRAM]        without a program crates/ibcplan/out/ibcplan"""
+"""The clients for authors of relayers, each by the tests in its own language, where that is at hand; and the example in Rust, which faults and a kill stop."""
 import os
 import pathlib
 import re

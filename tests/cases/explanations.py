@@ -1,6 +1,4 @@
-"""Runs of `explain` and `picture` on the rows and the examples, for tests/run; and by themselves on random scripts, as tests/by_hand/random makes them:
-
-    tests/cases/explanations.py COUNT [SEED [PROGRAM WORD..]]
+"""Runs of `explain` and `picture` on the rows and the examples, for tests/run.
 
 What `explain` writes is made here by the second planner (tests/reference/explain.py); that of the
 examples, and of some rows, is also stored as NAME.explained. Pictures are read as XML, and their shapes counted; those of two examples are stored as NAME.svg."""
@@ -10,7 +8,7 @@ import xml.etree.ElementTree as ElementTree
 
 from lib.json_reading import read_json
 from lib.judges import explain, reference
-from lib.program import TOP, Case
+from lib.program import EXAMPLES, ROWS, Case
 from lib.script_text import LATER, a_set, chains, client, goal, header, members, packet, path, stored, turn
 
 SVG = "{http://www.w3.org/2000/svg}"
@@ -26,11 +24,11 @@ EXPLAIN_WORDS = (
 
 def scripts():
     """The scripts of rows and examples that are planned, by name."""
-    for row in sorted((TOP / "tests" / "rows").iterdir()):
+    for row in sorted(ROWS.iterdir()):
         report = row.with_name(f"{row.name}.stdout")
         if row.suffix == "" and not row.with_name(f"{row.name}.args").exists() and report.read_bytes():
             yield row
-    yield from sorted((TOP / "examples").glob("*.toml"))
+    yield from sorted(EXAMPLES.glob("*.toml"))
 
 
 def stored_text(file):
@@ -64,7 +62,7 @@ def explain_cases():
 
 def chosen_cases():
     """One turn, the last one, one client; and turns and clients that aren't there."""
-    given = (TOP / "examples" / "two_clients.toml").read_bytes()
+    given = (EXAMPLES / "two_clients.toml").read_bytes()
     script = reference.read_script(given)
     value = explain.value_of(script)
     last, client = len(script.turns), list(script.clients)[-1]
@@ -181,7 +179,7 @@ def picture_cases():
         if script.turns:
             value = chosen(explain.value_of(script), len(script.turns))
             yield Case(f"{file.name}, a picture", ["picture", "-"], file.read_bytes(), expected_shapes(value), b"", 0, reader=shapes)
-    for picture in sorted((TOP / "examples").glob("*.svg")):
+    for picture in sorted(EXAMPLES.glob("*.svg")):
         given = picture.with_suffix(".toml").read_bytes()
         words = tomllib.loads(given.decode()).get("turn", [])
         yield Case(f"{picture.name}, stored", ["picture", "--turn", str(len(words)), "-"], given, picture.read_bytes(), b"", 0)

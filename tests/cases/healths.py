@@ -1,4 +1,4 @@
-"""Runs of `health` on the rows and the examples, for tests/run; what it writes, and when the clients in `plan --json` expire, is made here by the second
+"""Runs of `health` on the rows and the examples, for tests/run; what it writes is made here by the second
 planner (tests/reference)."""
 from lib.judges import explain, reference
 from lib.outputs import expiries, stored_texts

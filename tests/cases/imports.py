@@ -25,9 +25,9 @@ from lib.nodes import fetching
 from lib.notices import (FUTURE_HEADERS, INTO, LEFT_NEXT_SETS, MISSING_HEADERS, MISSING_LATEST, MISSING_NEXT_SET, MISSING_SEARCHES, MISSING_STATES,
                          MORE_PACKETS, NOTHING_FRESH, NOTHING_TRUSTED, NOT_CANONICAL, OTHER_CHANNEL, PASSED_OVER, SEVERAL_COUNTERPARTIES, TOO_MANY_HEADERS,
                          TOO_MANY_PACKETS, TOO_MANY_RECORDS, TOO_MANY_SETS, UNSEEN_GOAL, lacking)
-from lib.program import TOP, Case, ToldCase
+from lib.program import EXAMPLES, Case, ToldCase
 
-EXAMPLE = TOP / "examples" / "import"
+EXAMPLE = EXAMPLES / "import"
 
 
 def seed_cases(top, seed):

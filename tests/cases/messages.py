@@ -1,6 +1,5 @@
-"""Runs of `messages`, for tests/run: over made-up answers it writes what a second encoder makes of them here, with all votes and with those that the second
-planner needs; the messages are read back by `import`, the step rule accepts them, and the hashes of their headers and sets are made anew; and the shell file is
-run with a program that writes down what it is called with."""
+"""Runs of `messages`, for tests/run: over made-up answers it writes what a second encoder makes of them (lib/encoding.py), with all votes and with those that the
+second planner needs; and answers of which it makes no messages."""
 import itertools
 import json
 import shutil

@@ -6,7 +6,7 @@ import tomllib
 
 from lib.json_reading import read_json
 from lib.outputs import commands_of, fault_of, json_of, stored_texts, value_of
-from lib.program import TOP, Case
+from lib.program import EXAMPLES, Case
 
 
 def renamed_texts(script, report):
@@ -31,7 +31,7 @@ def strict_cases():
 
 def turn_cases():
     """`commands --turn` and `--last`: the first and the last turn, one whose window is refused, and numbers of no turn, also of a script without turns."""
-    example = TOP / "examples" / "two_clients.toml"
+    example = EXAMPLES / "two_clients.toml"
     table, report = tomllib.loads(example.read_text()), example.with_suffix(".report").read_text()
     for number in range(1, len(table["turn"]) + 1):
         output = commands_of(table, value_of(table, report), number).encode()
@@ -52,7 +52,7 @@ def turn_cases():
 def output_cases():
     """The runs of `plan --json` and of `commands`."""
     stored = stored_texts()
-    smallest = TOP / "examples" / "smallest.toml"
+    smallest = EXAMPLES / "smallest.toml"
     stored += renamed_texts(smallest.read_text(), smallest.with_suffix(".report").read_text())
     for script, report in stored:
         table, given, what = tomllib.loads(script), script.encode(), " ".join(report.split()[:9])
@@ -65,7 +65,7 @@ def output_cases():
 
 def fault_cases():
     """With --json a fault of a text stands on standard output, too, and nothing else; its words stay on standard error. Other failures are told there alone."""
-    smallest, certificate = str(TOP / "examples" / "smallest.toml"), str(TOP / "examples" / "smallest.certificate")
+    smallest, certificate = str(EXAMPLES / "smallest.toml"), str(EXAMPLES / "smallest.certificate")
     commands = ["plan", "-"], ["plan", "--strict", "-"], ["run", "--workers", "2", "-"], ["explain", "-"], ["explain", "--last", "-"], ["certify", "-", certificate], ["certify", smallest, "-"]
     for words in commands:
         for given, fault in (b"version =", "1001 NotToml at -"), (b"", "1002 MissingKey at version"), (b"# \xff", "1001 NotToml at -"), (b'"a\\"\\\\b" = 1', '1003 UnknownKey at a"\\b'):
@@ -82,7 +82,7 @@ def fault_cases():
 def jq_cases(program):
     """The JSON of the examples, by a program that the shell runs, as `jq` reads and writes it."""
     line = f'{" ".join(map(shlex.quote, program))} plan --json "$0" | jq -c .'
-    for example in sorted((TOP / "examples").glob("*.toml")):
+    for example in sorted(EXAMPLES.glob("*.toml")):
         value = json_of(example.read_text(), example.with_suffix(".report").read_text())
         value = json.dumps(value, separators=(",", ":"))
         yield Case(f"JSON of {example.name} by jq", ["sh", "-c", line, str(example)], b"", f"{value}\n".encode(), b"", 0)

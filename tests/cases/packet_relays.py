@@ -1,4 +1,4 @@
-"""Runs of the relayer with packets over simulated chains with strict light clients and packet handlers; tests/cases/relays.py makes them with its own."""
+"""Runs of the relayer with packets over simulated chains with strict light clients and packet handlers."""
 import dataclasses
 import json
 import random

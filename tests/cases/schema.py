@@ -1,8 +1,4 @@
-"""What the program writes as JSON, held against schema/ibcplan.schema.json; and values with one flaw each, which the schema has to refuse.
-
-    tests/cases/schema.py [PROGRAM WORD..]        of the rows and the examples; without words crates/ibcplan/out/ibcplan
-
-Every other test that reads JSON of the program reads it by `read_json` here."""
+"""What the program writes as JSON, held against schema/ibcplan.schema.json; and values with one flaw each, which the schema has to refuse."""
 import json
 import pathlib
 import random
@@ -12,8 +8,8 @@ from collections.abc import Callable, Iterator
 
 from lib.json_reading import VALIDATOR
 from lib.json_schema import BadSchema, Validator
+from lib.program import CERTIFICATES, EXAMPLES, ROWS
 
-TOP = pathlib.Path(__file__).resolve().parents[2]
 MUTATED = 1000
 LARGE = 20_000  # bytes of a value that isn't changed, since that would take long
 
@@ -173,10 +169,10 @@ def written(program: Words, words: Words, given: bytes) -> bytes:
 
 def scripts() -> Iterator[tuple[str, bytes]]:
     """The rows and the examples that are scripts."""
-    for row in sorted((TOP / "tests" / "rows").iterdir()):
+    for row in sorted(ROWS.iterdir()):
         if row.suffix == "" and not row.with_name(f"{row.name}.args").exists():
             yield row.name, row.read_bytes()
-    for example in sorted((TOP / "examples").glob("*.toml")):
+    for example in sorted(EXAMPLES.glob("*.toml")):
         yield example.stem, example.read_bytes()
 
 
@@ -200,8 +196,8 @@ def values_of(program: Words, setup: pathlib.Path) -> Iterator[tuple[str, str, b
         for number, line in enumerate(answers_to(program, script, setup)):
             first = "fault" if line.startswith(b'{"fault"') else "greeting"
             yield f"{name} {number}", "answer" if number else first, line
-    for row in sorted((TOP / "tests" / "certificates").glob("*.args")):
-        words = ["certify", "--json", str(TOP / "tests" / "rows" / row.read_text().split()[1]), "-"]
+    for row in sorted(CERTIFICATES.glob("*.args")):
+        words = ["certify", "--json", str(ROWS / row.read_text().split()[1]), "-"]
         text = written(program, words, row.with_suffix("").read_bytes())
         yield row.stem, "fault" if text.startswith(b'{"fault"') else "verdict", text
 

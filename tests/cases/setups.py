@@ -1,8 +1,8 @@
 """Runs of `setup`, for tests/run: what it writes is made here of the configuration; `want` reads the setup as a setup."""
 from lib.hermes import setup_of
-from lib.program import TOP, Case
+from lib.program import EXAMPLES, Case
 
-CONFIG = TOP / "examples" / "hermes" / "config.toml"
+CONFIG = EXAMPLES / "hermes" / "config.toml"
 
 
 def setup_cases(top):

@@ -1,4 +1,4 @@
-"""JSON that the program writes, read as schema/ibcplan.schema.json has it."""
+"""JSON that the program writes: every test that reads it holds it against schema/ibcplan.schema.json by `read_json`."""
 import json
 
 from lib.json_schema import Validator
