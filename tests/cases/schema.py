@@ -6,6 +6,7 @@ import subprocess
 import tomllib
 from collections.abc import Callable, Iterator
 
+from lib.following import ended, parts_of
 from lib.json_reading import VALIDATOR
 from lib.json_schema import BadSchema, Validator
 from lib.program import CERTIFICATES, EXAMPLES, ROWS
@@ -178,7 +179,6 @@ def scripts() -> Iterator[tuple[str, bytes]]:
 
 def answers_to(program: Words, script: bytes, setup: pathlib.Path) -> list[bytes]:
     """What `follow --json` answers to the turns of a script, where it can be told so."""
-    from cases.follows import ended, parts_of
     try:
         first, documents = parts_of(script.decode())
     except (ValueError, tomllib.TOMLDecodeError):
