@@ -105,7 +105,7 @@ def run_watched(words, given, output):
     return done, error.replace(b"\r\n", b"\n")
 
 
-def unproved_program():
-    """The program with nothing proved, built first where it isn't there, or a source is newer."""
-    subprocess.run([TOP / "ibcplan", "--unproved", "--build"], check=True)
-    return str(TOP / "crates" / "ibcplan" / "out" / "ibcplan-unproved")
+def built_program(is_unproved=False):
+    """The program, or the one with nothing proved, built first where it isn't there, or a source is newer."""
+    subprocess.run([TOP / "ibcplan", *(["--unproved"] if is_unproved else []), "--build"], check=True)
+    return str(TOP / "crates" / "ibcplan" / "out" / ("ibcplan-unproved" if is_unproved else "ibcplan"))
