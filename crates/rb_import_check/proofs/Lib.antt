@@ -12,7 +12,6 @@ pub mod Heights
 pub mod Pages
 pub mod Parting
 pub mod Powers
-pub mod Digits
 pub mod Searches
 pub mod Zips
 pub mod Staying

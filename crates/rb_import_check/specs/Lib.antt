@@ -1,7 +1,4 @@
 pub mod Names
-pub mod Advice
-pub mod Hexadecimals
-pub mod ErrorTexts
 pub mod Errors
 pub mod Saved
 pub mod Sets

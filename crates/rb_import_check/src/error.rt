@@ -51,7 +51,6 @@ pub enum CheckErrorName {
 }
 
 impl CheckErrorName {
-    ghost use Rattle.rb_import_check.specs.Advice.{check_error_advice};
     ghost use Rattle.rb_import_check.specs.Names.{check_error_name};
 
     /// The name.
@@ -85,9 +84,7 @@ impl CheckErrorName {
 
     /// What is wrong, and what to do; of answers that are to be fetched for a height, and of another chain's, `CheckError`
     /// tells which.
-    pub fn advice(self) -> &'static str
-        ensures { result.now ≡ check_error_advice self }
-    {
+    pub fn advice(self) -> &'static str {
         match self {
             CheckErrorName::WrongFolder => {
                 "a chain's folder has answers of /commit and /validators, a client's of client_states and consensus_states, a path's of /tx_search, packet_commitments, unreceived_packets and packet_acknowledgements; move the file, or give the chain, the client and the path different identifiers"

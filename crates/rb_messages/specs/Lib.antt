@@ -4,4 +4,3 @@ pub mod SignedTexts
 pub mod MessageTexts
 pub mod Sources
 pub mod Messages
-pub mod Errors

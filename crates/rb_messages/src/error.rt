@@ -37,11 +37,6 @@ pub enum MessageError<'a> {
 }
 
 impl fmt::Display for MessageError<'_> {
-    ghost use Rattle.std.specs.Prelude.{Some};
-    ghost use Rattle.rb_messages.specs.Errors.{message_error_text};
-
-    ghost output = { λ error. Some (message_error_text error) };
-
     fn fmt<W: fmt::Write>(&self, f: &mut fmt::Formatter<W>) -> fmt::Result {
         match self {
             MessageError::Answers(error) => write!(f, "{error}"),
