@@ -1,4 +1,8 @@
 //! The journal of a follower in a file: a script of the turns that were answered, from which it goes on after a crash.
+ghost use Rattle.std.specs.Prelude.{◌≡◌, OnOk};
+ghost use Rattle.std.specs.Vec.Iter.{into_iter_items};
+ghost use Rattle.ibcplan.specs.Journals.{AddsEntry, StoresNext};
+
 use crate::host::Host;
 use ibcplan_cli::{Input, ProgramError, Shown};
 use rb_follow::{Journal, check_setup};
@@ -7,7 +11,7 @@ use rb_journal::{
 };
 use rb_script_toml::RunError;
 use std::alloc::Global;
-use std::fs::{File, OpenOptions, TryLockError};
+use std::fs::{File, OpenFile, OpenOptions, TryLockError};
 use std::io;
 use std::io::{Read, Write};
 use std::vec::IntoIter;
@@ -25,17 +29,31 @@ const UNEXPECTED: &str = "a turn of it is refused, or was changed";
 /// The journal in a file, which no other process has while this one has it. The first documents that are stored
 /// have to be those that the file had already; the others are added to it.
 #[derive(Drop)]
-pub struct FileJournal {
+pub struct FileJournal<F> {
     alloc: Global,
-    file: File,
+    file: F,
     /// Whether its parts end with their digests: those of journals that were begun by older releases don't.
     digests: bool,
     past: IntoIter<Vec<u8>>,
 }
 
-impl FileJournal {
+impl<F: Write + OpenFile> FileJournal<F> {
+    /// Stores a turn: the next of those that the file has already, or else one more.
+    fn store_turn(&mut self, document: &[u8]) -> io::Result<()>
+        ensures { OnOk result (StoresNext self.old.digests document.now (into_iter_items self.old.past) (into_iter_items self.new.past) (F.contents self.old.file) (F.contents self.new.file)) }
+    {
+        match self.past.next() {
+            Some(past) if past.as_slice() == document => Ok(()),
+            Some(_) => Err(io::Error::new(io::ErrorKind::InvalidData, UNEXPECTED)),
+            None => self.append(document),
+        }
+    }
+
     /// Adds a turn, and waits until the disk has it. Each document that reads as TOML has a part.
-    fn append(&mut self, document: &[u8]) -> io::Result<()> {
+    fn append(&mut self, document: &[u8]) -> io::Result<()>
+        ensures added { OnOk result (AddsEntry self.old.digests document.now (F.contents self.old.file) (F.contents self.new.file)) }
+        ensures past { into_iter_items self.new.past ≡ into_iter_items self.old.past }
+    {
         match entry_text(self.alloc, self.digests, document) {
             Ok(entry) => {
                 self.file.write_all(entry.as_slice())?;
@@ -46,18 +64,13 @@ impl FileJournal {
     }
 }
 
-impl Journal for FileJournal {
+impl<F: Write + OpenFile> Journal for FileJournal<F> {
     ghost use Rattle.std.specs.Prelude.{None};
 
     ghost documents = { λ _. None };
 
     fn store(&mut self, document: &[u8]) -> io::Result<()> {
-        let document = without_number(document);
-        match self.past.next() {
-            Some(past) if past.as_slice() == document => Ok(()),
-            Some(_) => Err(io::Error::new(io::ErrorKind::InvalidData, UNEXPECTED)),
-            None => self.append(document),
-        }
+        self.store_turn(without_number(document))
     }
 }
 
@@ -75,7 +88,7 @@ fn without_number(document: &[u8]) -> &[u8] {
 /// A journal that was opened, the setup that it begins with, and the documents that it has, as an input.
 #[derive(Drop)]
 pub struct OpenedJournal<'a> {
-    pub journal: FileJournal,
+    pub journal: FileJournal<File>,
     pub setup: Input<'a>,
     pub past: Vec<u8>,
 }
