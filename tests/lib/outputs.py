@@ -173,16 +173,20 @@ def commands_of(script, value, wanted=None):
 
 
 def packet_commands(script, messages):
-    """The commands for packet messages, by path and kind, where the script names the end of the channel that the packets come from."""
+    """The commands for packet messages, by path and kind; a comment where the script doesn't name the end of the channel that the packets come from."""
     for path in script.get("path", []):
         for kind in MESSAGES:
             sequences = sorted(m["sequence"] for m in messages if (m["path"], m["kind"]) == (path["id"], kind))
+            if not sequences:
+                continue
             prefix, to, by = ("counterparty_", "source", "dest") if kind == "ack" else ("", "dest", "source")
-            if sequences and f"{prefix}port" in path:
-                ranges = [[n for _, n in run] for _, run in itertools.groupby(enumerate(sequences), lambda item: item[1] - item[0])]
-                wanted = ",".join(f"{run[0]}..{run[-1]}" if run[1:] else f"{run[0]}" for run in ranges)
+            ranges = [[n for _, n in run] for _, run in itertools.groupby(enumerate(sequences), lambda item: item[1] - item[0])]
+            wanted = ",".join(f"{run[0]}..{run[-1]}" if run[1:] else f"{run[0]}" for run in ranges)
+            if f"{prefix}port" in path:
                 yield (f"hermes tx packet-{'ack' if kind == 'ack' else 'recv'} --dst-chain {word(path[to])} --src-chain {word(path[by])} "
                        f"--src-port {word(path[prefix + 'port'])} --src-channel {word(path[prefix + 'channel'])} --packet-sequences {wanted}")
+            else:
+                yield f"# path {path['id']}: no command, its channel isn't named: {kind} {wanted}"
 
 
 def texts():

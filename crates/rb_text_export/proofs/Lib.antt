@@ -1,1 +1,3 @@
 pub mod Joined
+pub mod Added
+pub mod Turns

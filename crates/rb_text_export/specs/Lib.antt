@@ -1,2 +1,4 @@
 pub mod Json
 pub mod ReportJson
+pub mod Windows
+pub mod Commands

@@ -622,7 +622,7 @@ fn push_message(text: &mut String, paths: &[PathId], message: &Message) -> Resul
 }
 
 /// The word that a report has for a message of this kind.
-fn kind_name(kind: Kind) -> &'static str
+pub(crate) fn kind_name(kind: Kind) -> &'static str
     ensures { result.now ≡ kind_name kind }
 {
     match kind {
