@@ -2,3 +2,4 @@ pub mod Updates
 pub mod Batches
 pub mod Texts
 pub mod Transactions
+pub mod Shell
