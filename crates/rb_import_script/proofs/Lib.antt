@@ -1,0 +1,3 @@
+-- lemmas
+pub mod Added
+pub mod Lists
