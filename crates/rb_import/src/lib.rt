@@ -1,13 +1,9 @@
-//! The script that a setup and the answers of nodes make (`rb_import_check`, `rb_import_merge`), with its
-//! notices (`rb_import_notices`).
+//! The script that a setup and the answers of nodes make (`rb_import_check`, `rb_import_merge`, `rb_import_script`), with its
+//! notices (`rb_import_notices`), and its text.
 #![tactic(auto)]
 
 mod composing;
-mod needed;
 mod opening;
-mod order;
 mod shares;
-mod starts;
-mod steps;
 
-pub use composing::{Composed, compose};
+pub use composing::{Composed, Made, compose, make};
