@@ -1,3 +1,5 @@
+pub mod Added
+pub mod Lists
 pub mod Tallying
 pub mod Firsts
 pub mod Fitting

@@ -12,12 +12,12 @@ ghost use Rattle.rb_import.specs.Reasons.{HasReasonOfScript, IsOfSizeOf, NamesLa
 ghost use Rattle.rb_import.specs.Scripts.{IsFitting, IsMadeOf};
 ghost use Rattle.rb_import.specs.Texts.{heading};
 
+use crate::made::{MakeError, script_of_seen};
 use crate::opening::opening_of;
 use crate::shares::largest_id;
 use rb_import_check::{CheckErrorName, ImportError, SavedAnswers, Signatures};
 use rb_import_merge::{Seen, seen_in};
 use rb_import_notices::{Notices, notices_of};
-use rb_import_script::{MakeError, script_of_seen};
 use rb_import_setup::Setup;
 use rb_script_text::{TextError, text_of_script};
 use rb_script_types::Script;

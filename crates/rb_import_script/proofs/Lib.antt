@@ -1,3 +1,0 @@
--- lemmas
-pub mod Added
-pub mod Lists

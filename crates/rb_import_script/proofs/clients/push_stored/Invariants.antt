@@ -1,8 +1,0 @@
-use Rattle.std.proofs.Common.{◌≡◌, ◌++◌, drop, map}
-use Rattle.rb_import_script.specs.Events.{stored_in}
-use Rattle.rb_import_script.proofs.clients.push_stored.Given as goal
-
--- what is added, and what is left
-abbrev pub invariant-loop-stored : goal.invariant-loop-stored
-invariant-loop-stored l =
-    l.events.items ++ map (stored_in l.client) (drop l.stored-index l.records) ≡ l.initial.events.items ++ map (stored_in l.client) l.records
