@@ -10,13 +10,12 @@ pub(crate) const CERTIFY: &str = "certify";
 
 const CERT: &str = "CERT";
 
-const USAGE: &str = "ibcplan certify [OPTIONS] <SCRIPT> <CERT>
-       ibcplan certify [OPTIONS] <SETUP> <FOLDER> <CERT>
-       ibcplan certify [OPTIONS] -";
+const USAGE: &str = "ibcplan certify [OPTIONS] <SCRIPT> <CERT> | <SETUP> <FOLDER> <CERT> | -";
 
 const AFTER_CERTIFY: &str = "Examples (in the folder of the repository):
   ./ibcplan certify examples/smallest.toml examples/smallest.certificate
   ./ibcplan certify examples/smallest.toml - < examples/smallest.certificate
+  ./ibcplan certify setup.toml answers plan.certificate
   (cat examples/smallest.toml; echo ---; cat examples/smallest.certificate) |
     ./ibcplan certify -
 
