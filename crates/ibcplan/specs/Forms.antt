@@ -19,10 +19,10 @@ use Rattle.ibcplan.specs.Status.{plan_status}
 
 -- these are the clients of the relayer after the script, each with when it expires
 pub record AreHealthsOf (script : Script Global) (clients : List ClientHealth) : Type 0 where
-  pub relayer : Core Global
-  pub config : relayer.config.clients ≡ script.config.clients
+  pub relayer : Core
+  pub config : relayer.config ≡ script.config
   pub ended : IsEndOf (as_events script) (standing_in relayer)
-  pub clients_are : clients ≡ map (health_in (state_in relayer)) (enumerate_from 0 script.config.clients)
+  pub clients_are : clients ≡ map (health_in (state_in relayer)) (enumerate_from 0 relayer.config.clients)
 
 -- the text is the JSON of the script's report, with these clients; the status is the report's
 pub record IsJsonOf (is_strict : Bool) (script : Script Global) (text : List ℕ) (status : ℕ) : Type 0 where

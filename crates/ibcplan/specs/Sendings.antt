@@ -15,9 +15,10 @@ use Rattle.rb_super_turn.specs.Views.{report_view}
 use Rattle.rb_super_turn.specs.declared.report.Report.{Report}
 
 -- the relayer after a script, and the updates and the batches of the last turn of its report
-pub record IsSendingOf (script : Script Global) (relayer : Core Global) (updates : List PlannedUpdate) (batches : List PlannedBatch) : Type 0 where
+pub record IsSendingOf (script : Script Global) (relayer : Core) (updates : List PlannedUpdate) (batches : List PlannedBatch) : Type 0 where
   pub report : Report Global
   pub reported : IsReportOf (as_events script) (report_view report)
+  pub config : relayer.config ≡ script.config
   pub ended : IsEndOf (as_events script) (standing_in relayer)
   pub updates_are : map planned_view updates ≡ last_updates (standing_in relayer) relayer.config.clients report.turns.items
   pub batches_are : map batch_view batches ≡ last_batches (standing_in relayer) relayer.config.clients report.turns.items

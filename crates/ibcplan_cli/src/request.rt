@@ -123,9 +123,7 @@ pub enum Wanted<'a> {
 
 impl Wanted<'_> {
     /// How many threads may read the script.
-    pub fn threads(&self) -> usize
-        ensures { result ≤ 64 }
-    {
+    pub fn threads(&self) -> usize {
         match self {
             Wanted::Report { workers, .. } | Wanted::Json { workers, .. } => workers.count(),
             _ => 0,
