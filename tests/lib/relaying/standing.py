@@ -36,6 +36,8 @@ def serve(folder, tell, goes_on):
 
 def serve_beside(folder):
     """Leaves a process that serves, and ends when it does."""
+    if folder.exists():
+        sys.exit(f"{folder} is there already")
     folder.mkdir()
     ends, told = os.pipe()
     if child := os.fork():
