@@ -1,11 +1,9 @@
 //! Whether two scripts are the same.
 ghost use Rattle.std.specs.Prelude.{◌≡◌, IsTrue, map};
-ghost use Rattle.rb_script_types.specs.Config.{config_view};
 ghost use Rattle.rb_script_types.specs.Script.{script_view, turn_view};
 
 use crate::same_config::is_same_config;
-use rb_base::{Height, Window};
-use rb_script_types::{Asked, Goal, HostWindow, Script, Settlement, Turn};
+use rb_script_types::{Asked, HostWindow, Script, Settlement, Turn};
 
 /// What is compared by its content.
 pub(crate) trait Same {
@@ -54,7 +52,7 @@ fn are_same_turns(turns: &[Turn], others: &[Turn]) -> bool
 fn is_same_turn(turn: &Turn, other: &Turn) -> bool
     ensures { IsTrue result → turn_view turn.now ≡ turn_view other.now }
 {
-    is_same_window(turn.window, other.window)
+    turn.window == other.window
         && are_same(turn.windows.as_slice(), other.windows.as_slice())
         && are_same(turn.goals.as_slice(), other.goals.as_slice())
         && are_same(turn.events.as_slice(), other.events.as_slice())
@@ -62,53 +60,20 @@ fn is_same_turn(turn: &Turn, other: &Turn) -> bool
         && turn.taken == other.taken
 }
 
-fn is_same_window(window: Window, other: Window) -> bool
-    ensures { IsTrue result → window ≡ other }
-{
-    window.from() == other.from() && window.until() == other.until()
-}
-
 impl Same for HostWindow {
     fn is_same(&self, other: &HostWindow) -> bool {
-        self.host == other.host && is_same_window(self.window, other.window)
+        *self == *other
     }
 }
 
 impl Same for Asked {
     fn is_same(&self, other: &Asked) -> bool {
-        self.client == other.client && is_same_goal(self.goal, other.goal)
-    }
-}
-
-fn is_same_goal(goal: Goal, other: Goal) -> bool
-    ensures { IsTrue result → goal ≡ other }
-{
-    match goal {
-        Goal::Exactly(height) => is_exactly(other, height),
-        Goal::AtLeast(height) => is_at_least(other, height),
-    }
-}
-
-fn is_exactly(goal: Goal, wanted: Height) -> bool
-    ensures { IsTrue result → Goal.Exactly wanted ≡ goal }
-{
-    match goal {
-        Goal::Exactly(height) => wanted == height,
-        Goal::AtLeast(_) => false,
-    }
-}
-
-fn is_at_least(goal: Goal, wanted: Height) -> bool
-    ensures { IsTrue result → Goal.AtLeast wanted ≡ goal }
-{
-    match goal {
-        Goal::Exactly(_) => false,
-        Goal::AtLeast(height) => wanted == height,
+        *self == *other
     }
 }
 
 impl Same for Settlement {
     fn is_same(&self, other: &Settlement) -> bool {
-        self.client == other.client && self.batch == other.batch && self.done == other.done
+        *self == *other
     }
 }
