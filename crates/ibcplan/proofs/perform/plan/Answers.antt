@@ -1,4 +1,4 @@
-use Rattle.std.proofs.Common.{refl, subst, ◌∙◌, ◌×◌}
+use Rattle.std.proofs.Common.{refl}
 use Rattle.ibcplan.proofs.perform.plan.Goals as goal
 use Rattle.rb_super_turn.specs.Views.{report_view}
 
