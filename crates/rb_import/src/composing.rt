@@ -112,7 +112,7 @@ fn text_of<'a>(
     seen: &Seen<'_>,
     script: &Script,
 ) -> Result<String, ImportError<'a>>
-    requires { IsMadeOf setup.entry.now answers.now seen.now script.now }
+    requires { IsMadeOf setup.now answers.now seen.now script.now }
     ensures text { IfOk result (λ text. IsFitting setup.entry.now answers.now seen.now (string_bytes text)) }
     ensures size { IfErr result (IsOfSizeOf setup.entry.now seen.now) }
     ensures told { IfErr result (IsToldIn setup.entry.now) }
