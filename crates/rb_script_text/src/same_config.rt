@@ -26,7 +26,7 @@ impl Same for ChainId {
 impl Same for ClientConfig {
     #[tactic(auto, using(crate::proofs::Alike::alike))]
     fn is_same(&self, other: &ClientConfig) -> bool {
-        self.id.as_str() == other.id.as_str()
+        self.id == other.id
             && self.host == other.host
             && self.tracks == other.tracks
             && is_same_options(self.options, other.options)
@@ -53,10 +53,9 @@ fn has_same_costs(client: &ClientConfig, other: &ClientConfig) -> bool
 impl Same for PathConfig {
     #[tactic(auto, using(crate::proofs::Alike::alike))]
     fn is_same(&self, other: &PathConfig) -> bool {
-        self.id.as_str() == other.id.as_str()
+        self.id == other.id
             && self.source == other.source
             && self.destination == other.destination
-            && self.order == other.order
             && self.first == other.first
             && self.forward == other.forward
             && self.back == other.back
@@ -65,11 +64,13 @@ impl Same for PathConfig {
 }
 
 fn has_same_terms(path: &PathConfig, other: &PathConfig) -> bool
+    ensures order { IsTrue result → path.now.order ≡ other.now.order }
     ensures gas { IsTrue result → path.now.gas ≡ other.now.gas }
     ensures waits { IsTrue result → path.now.waits ≡ other.now.waits }
     ensures channel { IsTrue result → path.now.channel ≡ other.now.channel }
 {
-    path.gas == other.gas
+    path.order == other.order
+        && path.gas == other.gas
         && path.waits == other.waits
         && is_same_channel(path.channel, other.channel)
 }
