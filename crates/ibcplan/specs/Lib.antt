@@ -1,2 +1,4 @@
 pub mod Status
 pub mod Journals
+pub mod Forms
+pub mod Sendings

@@ -1,25 +1,29 @@
--- What the text of a script begins with, and that it fits.
-use Rattle.std.proofs.Common.{◌<◌, ◌≤◌, ℕ, List, Bool, true, false, cond, All, length, inl, inr, refl, ⊎_elim}
-use Rattle.std.specs.Prelude.{Vec}
-use Rattle.std.specs.Global.{Global}
+-- What the text of a script begins with, and why there is none.
+use Rattle.std.proofs.Common.{◌≡◌, ◌≤◌, ℕ, List, ◌++◌, Bool, true, false, cond, All, Result, Ok, Err, IfOk, IfErr, length, inl, inr, refl, ap, ◌∙◌, sym}
+use Rattle.std.proofs.lemmas.List.{append_assoc}
 use Rattle.std.specs.Str.{chars}
+use Rattle.std.specs.declared.alloc.Global.{Global}
+use Rattle.rb_script_types.specs.Script.{script_view}
+use Rattle.rb_script_types.specs.declared.script.Script.{Script as CodeScript}
+use Rattle.rb_script_read.specs.Scripts.{script_of}
 use Rattle.rb_import_answers.specs.Said.{IsPlain}
 use Rattle.rb_import_answers.proofs.PlainTexts.{are_plain}
 use Rattle.rb_import_setup.specs.Documents.{max_bytes}
 use Rattle.rb_import_setup.specs.declared.setup.Setup.{Setup}
+use Rattle.rb_import_check.specs.Errors.{IsTooBig}
 use Rattle.rb_import_check.specs.declared.error.ImportError.{ImportError}
 use Rattle.rb_import_check.specs.declared.error.ImportError.TheVariants as errors
 use Rattle.rb_import_check.specs.declared.saved.SavedAnswers.{SavedAnswers}
 use Rattle.rb_import_check.specs.declared.signed.Signatures.{Signatures}
 use Rattle.rb_import_merge.specs.Reasons.{HasReasonIn}
-use Rattle.rb_import_merge.specs.Room.{AtEachPlace}
-use Rattle.rb_import_merge.specs.declared.kept.KeptSets.{KeptSets}
+use Rattle.rb_import_merge.specs.Seen.{HoldsOfSeen, IsSeenIn}
 use Rattle.rb_import_merge.specs.declared.seen.Seen.{Seen}
-use Rattle.rb_import_text.specs.TableTexts.{tables_text}
+use Rattle.rb_import_notices.specs.Whole.{AreNoticesOf}
 use Rattle.rb_import.specs.Openings.{IsOpening, Opens, credit, hold_verdicts, opening_of, seen_commits, verifier_of, warning, words_of, words_on}
-use Rattle.rb_import.specs.Parts.{IsNeededOf}
-use Rattle.rb_import.specs.Reasons.{HasReasonOfScript}
-use Rattle.rb_import.specs.Scripts.{IsFitting, IsText, with_sets}
+use Rattle.rb_import.specs.Reasons.{HasReasonOfScript, IsOfSizeOf, NamesLargest}
+use Rattle.rb_import.specs.Scripts.{BeginsAs, IsFitting, IsMadeOf}
+use Rattle.rb_import.specs.Texts.{heading}
+use Rattle.rb_import.specs.declared.composing.Made.{Made}
 
 line_by : (b : Bool) (words : List ℕ) → All IsPlain words → IsOpening b (cond b (credit words) warning)
 line_by true words plain = inl (refl, (words, plain, refl))
@@ -33,27 +37,56 @@ is_opening : (answers : SavedAnswers) (seen : Seen) → IsOpening (hold_verdicts
 unfolding opening_of
 is_opening answers seen = line_by (hold_verdicts answers) (words_of answers seen) (words_are_plain answers seen)
 
-opens : (setup : Setup) (answers : SavedAnswers) (seen : Seen) (text : List ℕ) → IsText setup answers seen text → Opens (hold_verdicts answers) text
-opens setup answers seen text is = (opening_of answers seen, tables_text setup answers seen, is_opening answers seen, is)
-
 -- the text begins with the opening line and the heading
 pub opens_fitting : (setup : Setup) (answers : SavedAnswers) (seen : Seen) (text : List ℕ) → IsFitting setup answers seen text → Opens (hold_verdicts answers) text
 unfolding IsFitting
-opens_fitting setup answers seen text fitting =
-    ⊎_elim (λ whole. opens setup answers seen text whole.0) (λ part. opens setup answers (with_sets seen part.3) text part.5) fitting
+opens_fitting setup answers seen text fitting = (opening_of answers seen, fitting.1.0, is_opening answers seen, fitting.1.1)
 
-pub fits_whole : (setup : Setup) (answers : SavedAnswers) (seen : Seen) (text : List ℕ) → IsText setup answers seen text → length text ≤ max_bytes
-    → IsFitting setup answers seen text
+pub is_short : (setup : Setup) (answers : SavedAnswers) (seen : Seen) (text : List ℕ) → IsFitting setup answers seen text → length text ≤ max_bytes
 unfolding IsFitting
-fits_whole setup answers seen text is small = inl (is, small)
+is_short setup answers seen text fitting = fitting.2
 
-pub fits_in_part : (setup : Setup) (answers : SavedAnswers) (seen : Seen) (whole text : List ℕ) (sets : Vec KeptSets Global) → IsText setup answers seen whole
-    → max_bytes < length whole → AtEachPlace (IsNeededOf setup seen) seen.sets.items sets.items → IsText setup answers (with_sets seen sets) text
-    → IsFitting setup answers seen text
-unfolding IsFitting
-fits_in_part setup answers seen whole text sets is big needed part = inr (whole, is, big, sets, needed, part)
+-- a text behind the opening line and the heading
+pub begins_as : (answers : SavedAnswers) (seen : Seen) (text head : List ℕ) → head ≡ opening_of answers seen ++ heading
+    → ((tables : List ℕ) × (text ≡ head ++ tables)) → BeginsAs answers seen text
+begins_as answers seen text head is (tables, begins) = (tables, begins ∙ ap (λ h. h ++ tables) is)
 
 -- a reason in the answers is one of the script
 pub of_answers : (setup : Setup) (signatures : Signatures) (answers : SavedAnswers) (e : ImportError) → HasReasonIn setup answers e → HasReasonOfScript setup signatures answers e
 of_answers setup signatures answers (errors.CheckError p) w = inl w
 of_answers setup signatures answers errors.NoMemory w = tt
+
+-- so is one in the size of what was seen
+pub of_size : (setup : Setup) (signatures : Signatures) (answers : SavedAnswers) (seen : Seen) (e : ImportError) → IsSeenIn setup signatures answers seen
+    → IsOfSizeOf setup seen e → HasReasonOfScript setup signatures answers e
+of_size setup signatures answers seen (errors.CheckError p) is w = inr (seen, is, w)
+of_size setup signatures answers seen errors.NoMemory is w = tt
+
+-- which is told of the largest client
+pub of_largest : (setup : Setup) (signatures : Signatures) (answers : SavedAnswers) (seen : Seen) (e : ImportError) → IsSeenIn setup signatures answers seen
+    → IsOfSizeOf setup seen e → IsTooBig e → HoldsOfSeen setup signatures answers (λ s. NamesLargest setup s e)
+of_largest setup signatures answers seen (errors.CheckError p) is w big = (seen, is, w.1.1)
+of_largest setup signatures answers seen errors.NoMemory is w big = absurd big
+
+-- what was made of what was seen
+pub made_in : {E : Type 0} (setup : Setup) (signatures : Signatures) (answers : SavedAnswers) (seen : Seen) (r : Result Made E) → IsSeenIn setup signatures answers seen
+    → IfOk r (λ m. AreNoticesOf setup answers seen m.notices) → IfOk r (λ m. IsMadeOf setup answers seen m.script)
+    → IfOk r (λ m. HoldsOfSeen setup signatures answers (λ s. AreNoticesOf setup answers s m.notices × IsMadeOf setup answers s m.script))
+made_in setup signatures answers seen (Ok m) is notices script = (seen, is, (notices, script))
+made_in setup signatures answers seen (Err e) is notices script = tt
+
+pub all_of_size : {T : Type 0} (setup : Setup) (signatures : Signatures) (answers : SavedAnswers) (seen : Seen) (r : Result T ImportError) → IsSeenIn setup signatures answers seen
+    → IfErr r (IsOfSizeOf setup seen) → IfErr r (HasReasonOfScript setup signatures answers)
+all_of_size setup signatures answers seen (Ok t) is w = tt
+all_of_size setup signatures answers seen (Err e) is w = of_size setup signatures answers seen e is w
+
+pub all_of_largest : {T : Type 0} (setup : Setup) (signatures : Signatures) (answers : SavedAnswers) (seen : Seen) (r : Result T ImportError) → IsSeenIn setup signatures answers seen
+    → IfErr r (IsOfSizeOf setup seen) → IfErr r (λ e. IsTooBig e → HoldsOfSeen setup signatures answers (λ s. NamesLargest setup s e))
+all_of_largest setup signatures answers seen (Ok t) is w = tt
+all_of_largest setup signatures answers seen (Err e) is w = of_largest setup signatures answers seen e is w
+
+-- a text that the reader reads as the script of what was seen, behind the opening line and the heading
+pub fits : (setup : Setup) (answers : SavedAnswers) (seen : Seen) (text : List ℕ) (script : CodeScript Global) → IsMadeOf setup answers seen script
+    → script_of text ≡ Ok (script_view script) → BeginsAs answers seen text → length text ≤ max_bytes → IsFitting setup answers seen text
+unfolding IsFitting
+fits setup answers seen text script is read begins short = (read ∙ ap Ok is, begins, short)

@@ -45,7 +45,7 @@ pub none_ready_at : (index : ℕ) (turn : Data) → AreReadyAt index turn []
 unfolding AreReadyAt
 none_ready_at index turn = λ s _. none_ready_in s
 
-pub all_ready : (path : List ℕ) (events : Items) (places : List ℕ) (sets : List ReadySet) → AllZip (λ p s. IsReady path events s) places sets → AreReady path events sets
+pub all_ready : {A : Type 0} (path : List ℕ) (events : Items) (places : List A) (sets : List ReadySet) → AllZip (λ p s. IsReady path events s) places sets → AreReady path events sets
 unfolding AreReady
 all_ready path events places sets h = all_of_zip (IsReady path events) places sets h
 

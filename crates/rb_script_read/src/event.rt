@@ -19,6 +19,7 @@ use rb_book::{Header, Record, Vote};
 use rb_script_config::{Directory, Setup, reference};
 use rb_script_toml::{FaultName, Field, RunError, Section, element_path, section_at};
 use rb_script_types::{ClientConfig, Observation};
+use rb_valset::Known;
 use toml::Value;
 
 /// The kinds of event.
@@ -122,7 +123,7 @@ fn read_set(
     let name = needed_set_name(section, chain, names)?;
     let set = match ready {
         Some(ready) => ready.set?,
-        None => needed_validators(section)?,
+        None => needed_validators(section, &mut Known::new(section.alloc))?,
     };
     names.add(chain, name, *set.hash())?;
     Ok(Observation::SetSeen { chain, set })

@@ -8,7 +8,7 @@ ghost use Rattle.rb_script_read.specs.Ready.{AreReady, AreReadyAt, AreReadyIn, I
 use crate::set::needed_validators;
 use rayon::prelude::*;
 use rb_script_toml::{RunError, Section, child_path, element_path, section_at};
-use rb_valset::ValidatorSet;
+use rb_valset::{Known, ValidatorSet};
 use std::alloc::{AllocError, Global};
 use std::thread::Threads;
 use toml::Value;
@@ -71,7 +71,8 @@ fn ready_sets<R: Threads + Sync>(
     sets_at(rt, alloc, path, events, places.as_slice(), share)
 }
 
-/// The sets of the events at these places, of which each thread reads so many at least.
+/// The sets of the events at these places, of which each thread reads so many at least, and makes each validator
+/// once.
 fn sets_at<R: Threads + Sync>(
     rt: &R,
     alloc: Global,
@@ -86,11 +87,12 @@ fn sets_at<R: Threads + Sync>(
     places
         .par_iter()
         .with_min_len(share)
-        .map(
-            |place: &usize| -> ReadySet
+        .map_init(
+            || Known::new(alloc),
+            |known: &mut Known, place: &usize| -> ReadySet
                 requires { place.now < length events.now }
                 ensures { IsReady path.entry.now (items_view events.entry.now) result }
-            { ready_set(alloc, path, events, *place) },
+            { ready_set(alloc, path, events, *place, known) },
         )
         .collect(rt, alloc)
 }
@@ -127,20 +129,32 @@ fn is_set(event: &Value) -> bool {
 }
 
 #[tactic(auto, using(crate::proofs::ReadyLemmas::readies))]
-fn ready_set(alloc: Global, path: &str, events: &[Value], place: usize) -> ReadySet
+fn ready_set(
+    alloc: Global,
+    path: &str,
+    events: &[Value],
+    place: usize,
+    known: &mut Known,
+) -> ReadySet
     requires { place < length events.now }
     ensures { IsReady path.now (items_view events.now) result }
 {
-    let set = set_at(alloc, path, place, &events[place]);
+    let set = set_at(alloc, path, place, &events[place], known);
     ReadySet { place, set }
 }
 
 /// The set of the event of this index at a path.
 #[tactic(auto, using(rb_script_toml::proofs::Steps::steps))]
-fn set_at(alloc: Global, path: &str, index: usize, event: &Value) -> Result<ValidatorSet, RunError>
+fn set_at(
+    alloc: Global,
+    path: &str,
+    index: usize,
+    event: &Value,
+    known: &mut Known,
+) -> Result<ValidatorSet, RunError>
     ensures { Gives (λ s. s) result (validators_at path.now index (view event.now)) }
 {
     let path = element_path(alloc, path, index)?;
     let section = section_at(alloc, path.as_str(), event)?;
-    needed_validators(&section)
+    needed_validators(&section, known)
 }

@@ -8,7 +8,7 @@ ghost use Rattle.rb_script_read.specs.Sets.{key_of, member_of, validator, valida
 
 use hex::FromHex;
 use rb_script_toml::{FaultName, Field, RunError, Section};
-use rb_valset::{PublicKey, Validator, ValidatorSet, ValsetError};
+use rb_valset::{Known, PublicKey, Validator, ValidatorSet, ValsetError};
 use toml::Value;
 
 /// A validator as it is given, of whatever power.
@@ -73,12 +73,17 @@ fn validators_of(field: &Field<'_>, items: &[Value]) -> Result<Vec<GivenValidato
 }
 
 /// The validators, if each has a power that is allowed.
-fn members_of(field: &Field<'_>, given: &[GivenValidator]) -> Result<Vec<Validator>, RunError>
+fn members_of(
+    field: &Field<'_>,
+    given: &[GivenValidator],
+    known: &mut Known,
+) -> Result<Vec<Validator>, RunError>
     ensures { Gives (λ v. v.items) result (with_powers (field_view field.now).path (map member_of given.now)) }
 {
     let mut members = Vec::with_capacity(field.alloc, given.len())?;
+    known.make_room(field.alloc, given.len())?;
     for validator in given {
-        match Validator::new(validator.key, validator.power) {
+        match known.validator(validator.key, validator.power) {
             Ok(member) => members.push(member)?,
             Err(_) => return Err(field.fault(FaultName::BadSet)),
         }
@@ -88,11 +93,15 @@ fn members_of(field: &Field<'_>, given: &[GivenValidator]) -> Result<Vec<Validat
 
 /// The set of these validators.
 #[tactic(auto, using(rb_script_toml::proofs::Steps::steps), unfolding(crate::specs::Sets::set_of))]
-fn set_of(field: &Field<'_>, given: &[GivenValidator]) -> Result<ValidatorSet, RunError>
+fn set_of(
+    field: &Field<'_>,
+    given: &[GivenValidator],
+    known: &mut Known,
+) -> Result<ValidatorSet, RunError>
     ensures { Gives (λ s. s) result (set_of (field_view field.now).path (map member_of given.now)) }
 {
-    let members = members_of(field, given)?;
-    match ValidatorSet::new(field.alloc, members) {
+    let members = members_of(field, given, &mut *known)?;
+    match ValidatorSet::new_by(field.alloc, members, known) {
         Ok(set) => Ok(set),
         Err(ValsetError::NoMemory) => Err(RunError::NoMemory),
         Err(_) => Err(field.fault(FaultName::BadSet)),
@@ -100,17 +109,17 @@ fn set_of(field: &Field<'_>, given: &[GivenValidator]) -> Result<ValidatorSet, R
 }
 
 #[tactic(auto, using(rb_script_toml::proofs::Steps::steps), unfolding(crate::specs::Sets::validators))]
-fn validators(field: &Field<'_>) -> Result<ValidatorSet, RunError>
+fn validators(field: &Field<'_>, known: &mut Known) -> Result<ValidatorSet, RunError>
     ensures { Gives (λ s. s) result (validators (field_view field.now)) }
 {
     let given = validators_of(field, field.items()?)?;
-    set_of(field, given.as_slice())
+    set_of(field, given.as_slice(), known)
 }
 
-/// The set of the validators that a table lists.
+/// The set of the validators that a table lists, some of which may be known.
 #[tactic(auto, using(rb_script_toml::proofs::Steps::steps))]
-pub fn needed_validators(section: &Section<'_>) -> Result<ValidatorSet, RunError>
+pub fn needed_validators(section: &Section<'_>, known: &mut Known) -> Result<ValidatorSet, RunError>
     ensures { Gives (λ s. s) result (needs (codes "validators") validators (section_view section.now)) }
 {
-    validators(&section.required("validators")?)
+    validators(&section.required("validators")?, known)
 }

@@ -1,6 +1,6 @@
 use crate::merkle::to_hex;
 use crate::same::assert_same;
-use rb_valset::{PublicKey, Validator, ValidatorSet, ValsetError};
+use rb_valset::{Known, PublicKey, Validator, ValidatorSet, ValsetError};
 use std::alloc::{AllocError, Global};
 use std::fmt::Display;
 use std::process::Abort;
@@ -215,6 +215,17 @@ const BOTH: &[(PublicKey, u64)] = &[
 /// The hash of their set, as of `tests/reference/scripts.py`.
 const BOTH_HASH: &str = "e73c593042d2304bc0612356c1e247d638a90144cf53a524eefec7adce918d26";
 
+/// The same with another power of one key.
+const CHANGED: &[(PublicKey, u64)] = &[
+    (PublicKey::Ed25519([0xa3; 32]), 30),
+    (PublicKey::Ed25519([0xa1; 32]), 11),
+    (COMPRESSED, 10),
+    (PublicKey::Ed25519([0xa2; 32]), 10),
+];
+
+/// The hash of that set, as of `tests/reference/scripts.py`.
+const CHANGED_HASH: &str = "5f7f4e68d7d6e4f2f899528f0ae6c477bec416e3a61147612a576a88b3e0adac";
+
 /// The set of the keys, given in another order.
 fn make_both(alloc: Global) -> Result<ValidatorSet, Fail> {
     let mut members = Vec::new(alloc);
@@ -230,6 +241,32 @@ fn orders_both_kinds(rt: HostRuntime) -> Result<(), Fail> {
     check_hex(&rt, rt.alloc(), set.hash(), BOTH_HASH)?;
     for (place, (key, _)) in BOTH.iter().enumerate() {
         check_place(&rt, &set, place, *key)?;
+    }
+    Ok(())
+}
+
+/// The set of the keys, by what is known of the sets before.
+fn make_by(
+    alloc: Global,
+    known: &mut Known,
+    keys: &[(PublicKey, u64)],
+) -> Result<ValidatorSet, Fail> {
+    known.make_room(alloc, keys.len())?;
+    let mut members = Vec::new(alloc);
+    for (key, power) in keys {
+        members.push(known.validator(*key, *power)?)?;
+    }
+    Ok(ValidatorSet::new_by(alloc, members, known)?)
+}
+
+#[test]
+fn sets_share_what_they_hash(rt: HostRuntime) -> Result<(), Fail> {
+    let mut known = Known::new(rt.alloc());
+    for _ in 0..2 {
+        let both = make_by(rt.alloc(), &mut known, BOTH)?;
+        check_hex(&rt, rt.alloc(), both.hash(), BOTH_HASH)?;
+        let changed = make_by(rt.alloc(), &mut known, CHANGED)?;
+        check_hex(&rt, rt.alloc(), changed.hash(), CHANGED_HASH)?;
     }
     Ok(())
 }

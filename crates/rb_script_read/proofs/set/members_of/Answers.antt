@@ -12,7 +12,7 @@ use Rattle.rb_script_read.proofs.set.members_of.Goals as goal
 pub returns-in-Err : goal.returns-in-Err
 returns-in-Err c =
     let path = (field_view c.args.field.now).path in
-    rw (with_powers-fails path c.args.given.now c.loop-validator.validator-index _ c.loop-validator-test.true c.in-Err.ensures.ok)
+    rw (with_powers-fails path c.args.given.now c.loop-validator.validator-index _ c.loop-validator-test.true c.in-Err.ensures)
     (fails-at _ c.fault.result BadSet path c.fault.ensures)
 
 pub loop-validator-preserved : goal.loop-validator-preserved
@@ -23,8 +23,8 @@ loop-validator-preserved c =
     let more = read-more vs i d c.loop-validator-test.true in
     record {
       same = c.in_ok-push-in-Ok.ensures.items ∙ ap (λ ms. ms ++ c.in-Ok.member ∷ []) c.loop-validator.invariant.same
-          ∙ ap (λ m. map member_of (take i vs) ++ m ∷ []) c.in-Ok.ensures.ok.1 ∙ sym more;
-      powers = ap all_powers more ∙ powers-more (map member_of (take i vs)) (member_of (get_or vs i d)) c.loop-validator.invariant.powers c.in-Ok.ensures.ok.0;
+          ∙ ap (λ m. map member_of (take i vs) ++ m ∷ []) c.in-Ok.ensures.1 ∙ sym more;
+      powers = ap all_powers more ∙ powers-more (map member_of (take i vs)) (member_of (get_or vs i d)) c.loop-validator.invariant.powers c.in-Ok.ensures.0;
     }
 
 pub returns : goal.returns
