@@ -18,9 +18,9 @@ def run_with(program, words, given=b""):
     return done.stdout, done.stderr, done.returncode
 
 
-def is_planned_both_ways(program, form, words, given=b"", behind=()):
-    """Whether a command answers the setup and the folder of a run of `import` as that run and the script that it prints; tells where not."""
-    script, notices, status = run_with(program, ["import", *words], given)
+def is_planned_both_ways(program, form, words, imported, given=b"", behind=()):
+    """Whether a command answers the setup and the folder of a run of `import` as that run, which came to this, and the script that it prints; tells where not."""
+    script, notices, status = imported
     output, error, own = run_with(program, [*form, "-", *behind], script) if status in (0, 7) else (b"", b"", status)
     wanted = output, (error.replace(b"standard input", words[-2].encode()) or notices), own if error else status or own
     got = run_with(program, [*form, *words, *behind], given)
@@ -29,10 +29,9 @@ def is_planned_both_ways(program, form, words, given=b"", behind=()):
     return got == wanted
 
 
-def both_ways(program, cases):
-    """How many runs of `import` there are among these cases, and how many aren't planned both ways."""
-    runs = [case for case in cases if case.words[0] == "import"]
-    return len(runs), sum(not is_planned_both_ways(program, ["plan"], case.words[1:], case.given) for case in runs)
+def both_ways(program, imports):
+    """How many runs of `import` there are among these, and how many aren't planned both ways."""
+    return len(imports), sum(not is_planned_both_ways(program, ["plan"], case.words[1:], imported, case.given) for case, imported in imports)
 
 
 def partial_import(top):
@@ -61,11 +60,12 @@ def form_runs(program, top):
     imports = [str(EXAMPLE / "setup.toml"), str(EXAMPLE / "answers")], [str(EXAMPLE / "packets.toml"), str(EXAMPLE / "answers")], partial_import(top)
     went = []
     for words in imports:
-        went += [is_planned_both_ways(program, form, words) for form in FORMS]
+        imported = run_with(program, ["import", *words])
+        went += [is_planned_both_ways(program, form, words, imported) for form in FORMS]
         for number, certificate in enumerate(certificates_of(run_with(program, ["plan", *words])[0])):
             file = top / f"{len(went)}-{number}.certificate"
             for text in certificate, certificate.replace(b"updates = [[", b"updates = [[1, 1], ["):
                 file.write_bytes(text)
-                went += [is_planned_both_ways(program, form, words, behind=[str(file)]) for form in (["certify"], ["certify", "--json"])]
+                went += [is_planned_both_ways(program, form, words, imported, behind=[str(file)]) for form in (["certify"], ["certify", "--json"])]
     went.append(is_sent_both_ways(program, top, imports[0], "sent"))
     return len(went), went.count(False)

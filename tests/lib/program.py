@@ -74,8 +74,8 @@ class SafeCase(Case):
         return True
 
 
-def run_program(program, cases):
-    """How many runs of a program don't go as they have to."""
+def run_program(program, cases, imports=None):
+    """How many runs of a program don't go as they have to; runs of `import` are kept in a list, each with what it came to, if there is one."""
     wrong = 0
     for case in cases:
         with open(case.device, "wb") if case.device else contextlib.nullcontext(subprocess.PIPE) as output:
@@ -83,6 +83,8 @@ def run_program(program, cases):
             run = run_watched if case.is_watched else run_alone
             done, error = run(words, case.given, output)
         wrong += not case.is_met_by(done.stdout or b"", error, done.returncode)
+        if imports is not None and case.words[0] == "import":
+            imports.append((case, (done.stdout, error, done.returncode)))
     return wrong
 
 
