@@ -1,5 +1,5 @@
 -- What the text of a script begins with, and why there is none.
-use Rattle.std.proofs.Common.{◌≡◌, ◌≤◌, ℕ, List, ◌++◌, Bool, true, false, cond, All, Result, Ok, Err, IfOk, IfErr, length, inl, inr, refl, ap, ◌∙◌, sym}
+use Rattle.std.proofs.Common.{◌≡◌, ◌≤◌, ℕ, List, ◌++◌, Bool, true, false, cond, All, Result, Ok, Err, IfOk, IfErr, length, string_bytes, inl, inr, refl, ap, ◌∙◌, sym}
 use Rattle.std.proofs.lemmas.List.{append_assoc}
 use Rattle.std.specs.Str.{chars}
 use Rattle.std.specs.declared.alloc.Global.{Global}
@@ -23,6 +23,7 @@ use Rattle.rb_import.specs.Openings.{IsOpening, Opens, credit, hold_verdicts, op
 use Rattle.rb_import.specs.Reasons.{HasReasonOfScript, IsOfSizeOf, NamesLargest}
 use Rattle.rb_import.specs.Scripts.{BeginsAs, IsFitting, IsMadeOf}
 use Rattle.rb_import.specs.Texts.{heading}
+use Rattle.rb_import.specs.declared.composing.Composed.{Composed}
 use Rattle.rb_import.specs.declared.composing.Made.{Made}
 
 line_by : (b : Bool) (words : List ℕ) → All IsPlain words → IsOpening b (cond b (credit words) warning)
@@ -74,6 +75,22 @@ pub made_in : {E : Type 0} (setup : Setup) (signatures : Signatures) (answers : 
     → IfOk r (λ m. HoldsOfSeen setup signatures answers (λ s. AreNoticesOf setup answers s m.notices × IsMadeOf setup answers s m.script))
 made_in setup signatures answers seen (Ok m) is notices script = (seen, is, (notices, script))
 made_in setup signatures answers seen (Err e) is notices script = tt
+
+pub written_in : {E : Type 0} (setup : Setup) (signatures : Signatures) (answers : SavedAnswers) (seen : Seen) (r : Result Composed E) → IsSeenIn setup signatures answers seen
+    → IfOk r (λ t. AreNoticesOf setup answers seen t.notices) → IfOk r (λ t. IsFitting setup answers seen (string_bytes t.text))
+    → IfOk r (λ t. HoldsOfSeen setup signatures answers (λ s. AreNoticesOf setup answers s t.notices × IsFitting setup answers s (string_bytes t.text)))
+written_in setup signatures answers seen (Ok t) is notices text = (seen, is, (notices, text))
+written_in setup signatures answers seen (Err e) is notices text = tt
+
+pub written_opens : {E : Type 0} (setup : Setup) (answers : SavedAnswers) (seen : Seen) (r : Result Composed E) → IfOk r (λ t. IsFitting setup answers seen (string_bytes t.text))
+    → IfOk r (λ t. Opens (hold_verdicts answers) (string_bytes t.text))
+written_opens setup answers seen (Ok t) text = opens_fitting setup answers seen (string_bytes t.text) text
+written_opens setup answers seen (Err e) text = tt
+
+pub written_short : {E : Type 0} (setup : Setup) (answers : SavedAnswers) (seen : Seen) (r : Result Composed E) → IfOk r (λ t. IsFitting setup answers seen (string_bytes t.text))
+    → IfOk r (λ t. length (string_bytes t.text) ≤ max_bytes)
+written_short setup answers seen (Ok t) text = is_short setup answers seen (string_bytes t.text) text
+written_short setup answers seen (Err e) text = tt
 
 pub all_of_size : {T : Type 0} (setup : Setup) (signatures : Signatures) (answers : SavedAnswers) (seen : Seen) (r : Result T ImportError) → IsSeenIn setup signatures answers seen
     → IfErr r (IsOfSizeOf setup seen) → IfErr r (HasReasonOfScript setup signatures answers)

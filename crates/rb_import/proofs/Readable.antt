@@ -13,7 +13,7 @@ pub is_read : (s : CodeScript Global) (turns : List (CodeTurn Global)) → turns
     → sum_by entry_count (map turn_view s.turns.items) ≤ max_entries → IsReadScript (script_view s)
 is_read s turns same config few each room = record {
   config = config;
-  turns = All-map turn_view s.turns.items (subst (All (IsTurnOf s.config)) same each);
+  turns = All-map (IsReadTurn (length s.config.chains.items) (length s.config.clients.items) (length s.config.paths.items)) turn_view s.turns.items (subst (All (IsTurnOf s.config)) same each);
   few_turns = subst (λ n. n ≤ max_turns) same_length few;
   few_entries = room;
 } where
