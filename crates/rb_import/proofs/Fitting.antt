@@ -1,6 +1,5 @@
 -- What the text of a script begins with, and why there is none.
-use Rattle.std.proofs.Common.{◌≡◌, ◌≤◌, ℕ, List, ◌++◌, Bool, true, false, cond, All, Result, Ok, Err, IfOk, IfErr, length, string_bytes, inl, inr, refl, ap, ◌∙◌, sym}
-use Rattle.std.proofs.lemmas.List.{append_assoc}
+use Rattle.std.proofs.Common.{◌≡◌, ◌≤◌, ℕ, List, ◌++◌, Bool, true, false, cond, All, Result, Ok, Err, IfOk, IfErr, length, string_bytes, inl, inr, refl, ap, ◌∙◌}
 use Rattle.std.specs.Str.{chars}
 use Rattle.std.specs.declared.alloc.Global.{Global}
 use Rattle.rb_script_types.specs.Script.{script_view}

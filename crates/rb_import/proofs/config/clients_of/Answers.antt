@@ -1,4 +1,4 @@
-use Rattle.std.proofs.Common.{◌≡◌, ◌<◌, ◌++◌, ◌∷◌, [], get_or, length, rules}
+use Rattle.std.proofs.Common.{◌≡◌, ◌<◌, get_or, length, rules}
 use Rattle.rb_import.specs.Scripts.{client_in}
 use Rattle.rb_import.proofs.Lists.{zipped_on}
 use Rattle.rb_import.proofs.config.clients_of.Goals as goal
