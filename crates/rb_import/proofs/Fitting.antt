@@ -1,16 +1,22 @@
 -- What the text of a script begins with, and that it fits.
-use Rattle.std.proofs.Common.{◌<◌, ◌≤◌, ℕ, List, Bool, true, false, cond, All, length, inl, inr, refl, ⊎_elim}
+use Rattle.std.proofs.Common.{◌<◌, ◌≤◌, ◌∷◌, [], ℕ, List, Bool, true, false, cond, All, length, inl, inr, refl, subst, sym, ⊎_elim}
 use Rattle.std.specs.Prelude.{Vec}
 use Rattle.std.specs.Global.{Global}
 use Rattle.std.specs.Str.{chars}
+use Rattle.std.proofs.lemmas.List.Elements.{All-cons, All-nil}
 use Rattle.rb_import_answers.specs.Said.{IsPlain}
 use Rattle.rb_import_answers.proofs.PlainTexts.{are_plain}
 use Rattle.rb_import_setup.specs.Documents.{max_bytes}
 use Rattle.rb_import_setup.specs.declared.setup.Setup.{Setup}
+use Rattle.rb_import_check.specs.declared.error.CheckError.{CheckError}
 use Rattle.rb_import_check.specs.declared.error.ImportError.{ImportError}
 use Rattle.rb_import_check.specs.declared.error.ImportError.TheVariants as errors
 use Rattle.rb_import_check.specs.declared.saved.SavedAnswers.{SavedAnswers}
 use Rattle.rb_import_check.specs.declared.signed.Signatures.{Signatures}
+use Rattle.rb_import_check.specs.Errors.{IsTooBig}
+use Rattle.rb_import_merge.specs.declared.errors.ImportErrors.{ImportErrors}
+use Rattle.rb_import_merge.specs.declared.errors.ImportErrors.TheVariants as all
+use Rattle.rb_import_merge.specs.Errors.{AreAlone, OfEach}
 use Rattle.rb_import_merge.specs.Reasons.{HasReasonIn}
 use Rattle.rb_import_merge.specs.Room.{AtEachPlace}
 use Rattle.rb_import_merge.specs.declared.kept.KeptSets.{KeptSets}
@@ -54,6 +60,19 @@ unfolding IsFitting
 fits_in_part setup answers seen whole text sets is big needed part = inr (whole, is, big, sets, needed, part)
 
 -- a reason in the answers is one of the script
-pub of_answers : (setup : Setup) (signatures : Signatures) (answers : SavedAnswers) (e : ImportError) → HasReasonIn setup answers e → HasReasonOfScript setup signatures answers e
-of_answers setup signatures answers (errors.CheckError p) w = inl w
-of_answers setup signatures answers errors.NoMemory w = tt
+pub of_answers : (setup : Setup) (signatures : Signatures) (answers : SavedAnswers) (e : ImportErrors) → OfEach (HasReasonIn setup answers) e → OfEach (HasReasonOfScript setup signatures answers) e
+of_answers setup signatures answers (all.Refused r) each k d small = inl (each k d small)
+of_answers setup signatures answers all.NoMemory each = tt
+
+-- none is that the script would be too big
+pub none_too_big : (Tells : ImportError → Type 0) (e : ImportErrors) → OfEach (λ p. ¬ IsTooBig p) e → OfEach (λ p. IsTooBig p → Tells p) e
+none_too_big Tells (all.Refused r) each k d small = λ big. absurd (each k d small big)
+none_too_big Tells all.NoMemory each = tt
+
+-- what holds of a problem holds of each where it is alone
+pub of_alone : (Holds : ImportError → Type 0) (p : ImportError) (e : ImportErrors) → AreAlone p e → Holds p → OfEach Holds e
+of_alone Holds (errors.CheckError p) (all.Refused r) is holds =
+    let Of : CheckError → Type 0 = λ q. Holds (errors.CheckError q) in
+    subst (All Of) is (All-cons Of p [] holds (All-nil Of))
+of_alone Holds (errors.CheckError p) all.NoMemory is holds = absurd is
+of_alone Holds errors.NoMemory e is holds = subst (OfEach Holds) (sym is) tt

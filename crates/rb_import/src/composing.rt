@@ -2,7 +2,7 @@
 ghost use Rattle.std.specs.Prelude.{◌≡◌, ◌≤◌, ◌++◌, length, IfOk, IfErr, string_bytes};
 ghost use Rattle.rb_import_setup.specs.Documents.{max_bytes};
 ghost use Rattle.rb_import_check.specs.Errors.{IsTooBig};
-ghost use Rattle.rb_import_merge.specs.Errors.{IsToldIn};
+ghost use Rattle.rb_import_merge.specs.Errors.{IsToldIn, OfEach};
 ghost use Rattle.rb_import_merge.specs.Seen.{HoldsOfSeen};
 ghost use Rattle.rb_import_notices.specs.Whole.{AreNoticesOf};
 ghost use Rattle.rb_import.specs.Openings.{Opens, hold_verdicts};
@@ -14,7 +14,7 @@ use crate::needed::needed_sets;
 use crate::opening::opening_of;
 use crate::shares::largest_id;
 use rb_import_check::{CheckErrorName, ImportError, SavedAnswers, Signatures};
-use rb_import_merge::{Seen, seen_in};
+use rb_import_merge::{ImportErrors, Seen, seen_in};
 use rb_import_notices::{Notices, notices_of};
 use rb_import_setup::Setup;
 use rb_import_text::push_tables;
@@ -31,30 +31,31 @@ pub struct Composed<'a> {
 /// The text of the script of version 4 that a setup and the answers of its chains, clients and paths make,
 /// which begins with a line that says who verified signatures, or that nobody did; and what isn't among the
 /// answers, though the script stands without it, or isn't written, since no book has room for it. A script that
-/// would be too big has the validator sets alone that its plans need. The first problem is answered: of the chains,
-/// of the clients, then of the paths, each in order, then `ScriptTooBig`, where those sets alone are too many, of the
-/// client that brings the most. `NoMemory` comes where a growth is refused.
+/// would be too big has the validator sets alone that its plans need. All problems of answers are answered: of the chains,
+/// of the clients, then of the paths, each in order; where there is none, `ScriptTooBig`, where those sets alone are too
+/// many, of the client that brings the most. `NoMemory` comes where a growth is refused.
 pub fn compose<'a>(
     alloc: Global,
     setup: &'a Setup,
     signatures: Signatures,
     answers: &'a SavedAnswers,
-) -> Result<Composed<'a>, ImportError<'a>>
+) -> Result<Composed<'a>, ImportErrors<'a>>
     ensures size { IfOk result (λ script. length (string_bytes script.text) ≤ max_bytes) }
     ensures opening { IfOk result (λ script. Opens (hold_verdicts answers.entry.now) (string_bytes script.text)) }
     ensures script { IfOk result (λ script. HoldsOfSeen setup.entry.now signatures answers.entry.now (λ seen.
         AreNoticesOf setup.entry.now answers.entry.now seen script.notices × IsFitting setup.entry.now answers.entry.now seen (string_bytes script.text))) }
-    ensures reason { IfErr result (HasReasonOfScript setup.entry.now signatures answers.entry.now) }
-    ensures told { IfErr result (IsToldIn setup.entry.now) }
-    ensures big { IfErr result (λ e. IsTooBig e → HoldsOfSeen setup.entry.now signatures answers.entry.now (λ seen.
-        IsTooLong setup.entry.now answers.entry.now seen × NamesLargest setup.entry.now seen e)) }
+    ensures reason { IfErr result (OfEach (HasReasonOfScript setup.entry.now signatures answers.entry.now)) }
+    ensures told { IfErr result (OfEach (IsToldIn setup.entry.now)) }
+    ensures big { IfErr result (OfEach (λ e. IsTooBig e → HoldsOfSeen setup.entry.now signatures answers.entry.now (λ seen.
+        IsTooLong setup.entry.now answers.entry.now seen × NamesLargest setup.entry.now seen e))) }
 {
     let seen = seen_in(alloc, setup, signatures, answers)?;
     let notices = notices_of(alloc, setup, answers, &seen)?;
     let largest = largest_id(alloc, setup, &seen)?;
     let text = fitting_text(alloc, setup, answers, seen)?;
     if text.len() > MAX_BYTES {
-        return Err(ImportError::of(CheckErrorName::ScriptTooBig, largest));
+        let problem = ImportError::of(CheckErrorName::ScriptTooBig, largest);
+        return Err(ImportErrors::alone(alloc, problem));
     }
     Ok(Composed { text, notices })
 }
