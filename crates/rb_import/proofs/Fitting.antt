@@ -1,5 +1,5 @@
 -- What the text of a script begins with, and that it fits.
-use Rattle.std.proofs.Common.{◌<◌, ◌≤◌, ◌∷◌, [], ℕ, List, Bool, true, false, cond, All, length, inl, inr, refl, subst, sym, ⊎_elim}
+use Rattle.std.proofs.Common.{◌<◌, ◌≤◌, [], ℕ, List, Bool, true, false, cond, All, length, inl, inr, refl, subst, sym, ⊎_elim}
 use Rattle.std.specs.Prelude.{Vec}
 use Rattle.std.specs.Global.{Global}
 use Rattle.std.specs.Str.{chars}
@@ -61,12 +61,12 @@ fits_in_part setup answers seen whole text sets is big needed part = inr (whole,
 
 -- a reason in the answers is one of the script
 pub of_answers : (setup : Setup) (signatures : Signatures) (answers : SavedAnswers) (e : ImportErrors) → OfEach (HasReasonIn setup answers) e → OfEach (HasReasonOfScript setup signatures answers) e
-of_answers setup signatures answers (all.Refused r) each k d small = inl (each k d small)
+of_answers setup signatures answers (all.Refused r) each = λ k d small. inl (each k d small)
 of_answers setup signatures answers all.NoMemory each = tt
 
 -- none is that the script would be too big
 pub none_too_big : (Tells : ImportError → Type 0) (e : ImportErrors) → OfEach (λ p. ¬ IsTooBig p) e → OfEach (λ p. IsTooBig p → Tells p) e
-none_too_big Tells (all.Refused r) each k d small = λ big. absurd (each k d small big)
+none_too_big Tells (all.Refused r) each = λ k d small big. absurd (each k d small big)
 none_too_big Tells all.NoMemory each = tt
 
 -- what holds of a problem holds of each where it is alone

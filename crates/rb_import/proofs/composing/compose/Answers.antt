@@ -1,7 +1,7 @@
 use Rattle.std.proofs.Common.{◌<◌, inr, length, refl, rules, string_bytes, subst, sym}
 use Rattle.rb_import_setup.specs.Documents.{max_bytes}
 use Rattle.rb_import_check.specs.declared.error.ImportError.{ImportError}
-use Rattle.rb_import_check.specs.Errors.{IsToldOf, IsTooBig}
+use Rattle.rb_import_check.specs.Errors.{IsTooBig}
 use Rattle.rb_import_merge.specs.Errors.{IsToldIn, OfEach}
 use Rattle.rb_import_merge.specs.Seen.{HoldsOfSeen}
 use Rattle.rb_import_merge.proofs.Judging.{refused_so}
@@ -45,10 +45,10 @@ pub returns-in_err-seen-clause-reason : goal.returns-in_err-seen-clause-reason
 returns-in_err-seen-clause-reason c =
     let e = c.in_err-seen.field-0.0 in
     let Holds : ImportError → Type 0 = HasReasonOfScript c.args.setup.now c.args.signatures c.args.answers.now in
-    refused_so (OfEach Holds) c.from_residual-in_err-seen.result e (search rules) (of_answers c.args.setup.now c.args.signatures c.args.answers.now e c.in_err-seen.ensures.reason)
+    refused_so (OfEach Holds) c.from_residual.result e (search rules) (of_answers c.args.setup.now c.args.signatures c.args.answers.now e c.in_err-seen.ensures.reason)
 
 pub returns-in_err-seen-clause-big : goal.returns-in_err-seen-clause-big
 returns-in_err-seen-clause-big c =
     let e = c.in_err-seen.field-0.0 in
     let Tells : ImportError → Type 0 = λ p. HoldsOfSeen c.args.setup.now c.args.signatures c.args.answers.now (λ seen. IsTooLong c.args.setup.now c.args.answers.now seen × NamesLargest c.args.setup.now seen p) in
-    refused_so (OfEach (λ p. IsTooBig p → Tells p)) c.from_residual-in_err-seen.result e (search rules) (none_too_big Tells e c.in_err-seen.ensures.names)
+    refused_so (OfEach (λ p. IsTooBig p → Tells p)) c.from_residual.result e (search rules) (none_too_big Tells e c.in_err-seen.ensures.names)
