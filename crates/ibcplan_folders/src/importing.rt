@@ -1,23 +1,27 @@
-//! Importing: the files of a folder are read, and the script that they make is written, without the clients and the
-//! paths whose answers are refused.
-ghost use Rattle.std.specs.Prelude.{◌≡◌, ◌∷◌, ◌++◌, [], IfOk, MatchOption, OnOk, is_some, slice_get, string_bytes, true};
+//! Importing: the files of a folder are read, and the script that they make is given, or written, without the clients and
+//! the paths whose answers are refused.
+ghost use Rattle.std.specs.Prelude.{◌≡◌, ◌∷◌, ◌++◌, [], IfOk, MatchOption, Ok, OnOk, is_some, slice_get, string_bytes, true};
 ghost use Rattle.sha2.specs.Sha256.{sha256};
 ghost use Rattle.rb_import_answers.specs.Answers.{answer_view, told_in, verdicts_file, without_votes};
 ghost use Rattle.rb_import_answers.specs.Revisions.{IsRevision};
+ghost use Rattle.rb_script_types.specs.Script.{IsReadScript, script_view};
+ghost use Rattle.rb_script_read.specs.Work.{little};
 ghost use Rattle.rb_import.specs.Openings.{Opens, hold_verdicts};
-ghost use Rattle.ibcplan_folders.specs.Files.{HasVerdicts, IsScriptOfRest, TellsIn, signatures_of};
+ghost use Rattle.ibcplan_folders.specs.Files.{HasVerdicts, IsMadeOfRest, IsScriptOfRest, TellsIn, signatures_of};
 ghost use Rattle.ibcplan_folders.specs.LeftOut.{import_status};
 
 use crate::file_system::FileSystem;
 use crate::left_out::{Failure, Failures, Fleet, LeftOut, is_tracked};
 use ibcplan_cli::{Input, ProgramError, bytes_of, shown_text};
 use rb_base::ChainId;
-use rb_import::{Composed, compose};
+use rb_import::{Composed, Made, compose, make};
 use rb_import_answers::revision_of;
 use rb_import_check::{CheckError, Saved, SavedAnswers, SavedError, Signatures, read_saved};
 use rb_import_json::{FieldError, FieldErrorName};
 use rb_import_merge::ImportErrors;
+use rb_import_notices::Notices;
 use rb_import_setup::{ClientSetup, Setup, read_setup};
+use rb_script_types::Script;
 use std::alloc::{AllocError, Global};
 use std::fs::File;
 use std::{fs, io};
@@ -39,23 +43,54 @@ pub struct ImportedText {
     pub status: u8,
 }
 
-/// The script that a setup and the answers in a folder make.
+/// A script, lines that tell what is left out and which answers aren't there, and the status to end with.
+#[derive(Drop)]
+pub struct MadeScript {
+    pub script: Script,
+    pub notices: String,
+    pub status: u8,
+}
+
+/// The text of the script that a setup and the answers in a folder make.
 pub fn imported<'a, R: FileSystem>(
     rt: &R,
     input: &Input<'a>,
     answers: Answers<'_>,
 ) -> Result<ImportedText, ProgramError<'a>> {
-    let setup = match read_setup(rt.alloc(), input.bytes()) {
-        Ok(setup) => setup,
-        Err(error) => return Err(ProgramError::of_setup(error, input)),
-    };
     let mut left_out = LeftOut::nothing(rt.alloc());
-    let fleet = read_fleet(rt, setup, answers, &mut left_out)?;
+    let fleet = fleet_of(rt, input, answers, &mut left_out)?;
     composed(rt.alloc(), fleet, answers, left_out)
 }
 
-/// The script that a fleet makes, without the clients and the paths whose answers are refused. A round leaves out all of
-/// them; each later one the largest client, where the script of the others is too big.
+/// The script that a setup and the answers in a folder make, of which `imported` gives the text.
+pub fn made<'a, R: FileSystem>(
+    rt: &R,
+    input: &Input<'a>,
+    answers: Answers<'_>,
+) -> Result<MadeScript, ProgramError<'a>>
+    ensures form { IfOk result (λ made. IsReadScript (script_view made.script)) }
+    ensures little { IfOk result (λ made. little (script_view made.script).config (script_view made.script).turns ≡ Ok tt) }
+{
+    let mut left_out = LeftOut::nothing(rt.alloc());
+    let fleet = fleet_of(rt, input, answers, &mut left_out)?;
+    scripted(rt.alloc(), fleet, answers, left_out)
+}
+
+/// The setup of an input, with the answers in a folder.
+fn fleet_of<'a, R: FileSystem>(
+    rt: &R,
+    input: &Input<'a>,
+    answers: Answers<'_>,
+    left_out: &mut LeftOut<'a>,
+) -> Result<Fleet, ProgramError<'a>> {
+    match read_setup(rt.alloc(), input.bytes()) {
+        Ok(setup) => read_fleet(rt, setup, answers, left_out),
+        Err(error) => Err(ProgramError::of_setup(error, input)),
+    }
+}
+
+/// The text of the script that a fleet makes, without the clients and the paths whose answers are refused. A round leaves
+/// out all of them; each later one the largest client, where the script of the others is too big.
 fn composed<'a>(
     alloc: Global,
     fleet: Fleet,
@@ -72,11 +107,32 @@ fn composed<'a>(
         let signatures = signatures_of(source);
         let failures = match compose(alloc, &fleet.setup, signatures, &fleet.answers) {
             Ok(composed) => return imported_text(alloc, composed, &left_out),
-            Err(errors) => failures_of(alloc, &errors)?,
+            Err(errors) => failures_of(alloc, &errors, source)?,
         };
-        if source.is_all_or_nothing {
-            return Err(failures.first.error);
-        }
+        fleet = left_out.without_all(alloc, fleet, failures)?;
+    }
+}
+
+/// The script of which that is the text, and which may be bigger.
+fn scripted<'a>(
+    alloc: Global,
+    fleet: Fleet,
+    source: Answers<'_>,
+    left_out: LeftOut<'a>,
+) -> Result<MadeScript, ProgramError<'a>>
+    ensures in_part { IfOk result (λ made. is_some left_out.entry.first ≡ true → made.status ≡ 7) }
+    ensures script { IfOk result (IsMadeOfRest fleet (signatures_of source.entry)) }
+    ensures form { IfOk result (λ made. IsReadScript (script_view made.script)) }
+    ensures little { IfOk result (λ made. little (script_view made.script).config (script_view made.script).turns ≡ Ok tt) }
+{
+    let mut fleet = fleet;
+    let mut left_out = left_out;
+    'rounds: loop {
+        let signatures = signatures_of(source);
+        let failures = match make(alloc, &fleet.setup, signatures, &fleet.answers) {
+            Ok(made) => return made_script(alloc, made, &left_out),
+            Err(errors) => failures_of(alloc, &errors, source)?,
+        };
         fleet = left_out.without_all(alloc, fleet, failures)?;
     }
 }
@@ -102,26 +158,57 @@ fn imported_text<'a>(
     ensures status { IfOk result (λ text. text.status ≡ import_status left_out.now) }
 {
     let Composed { text, notices } = composed;
+    Ok(ImportedText {
+        script: text,
+        notices: told(alloc, &notices, left_out)?,
+        status: left_out.status(),
+    })
+}
+
+/// The same of the script itself.
+fn made_script<'a>(
+    alloc: Global,
+    made: Made<'_>,
+    left_out: &LeftOut<'_>,
+) -> Result<MadeScript, ProgramError<'a>>
+    ensures script { IfOk result (λ text. text.script ≡ made.entry.script) }
+    ensures status { IfOk result (λ text. text.status ≡ import_status left_out.now) }
+{
+    let Made { script, notices } = made;
+    Ok(MadeScript {
+        script,
+        notices: told(alloc, &notices, left_out)?,
+        status: left_out.status(),
+    })
+}
+
+/// What is told of what is left out, and behind that of the answers.
+fn told<'a>(
+    alloc: Global,
+    notices: &Notices<'_>,
+    left_out: &LeftOut<'_>,
+) -> Result<String, ProgramError<'a>> {
     let lines = left_out.lines();
     match format!(in alloc; "{lines}{notices}") {
-        Ok(notices) => Ok(ImportedText {
-            script: text,
-            notices,
-            status: left_out.status(),
-        }),
+        Ok(notices) => Ok(notices),
         Err(_) => Err(ProgramError::NoMemory),
     }
 }
 
-/// Of which chains, clients and paths answers are refused, and why, as texts of their own. The error is one of the whole.
+/// Of which chains, clients and paths answers are refused, and why, as texts of their own. The error is one of the whole,
+/// as the first of them is with all or nothing.
 fn failures_of<'a>(
     alloc: Global,
     errors: &ImportErrors<'_>,
+    source: Answers<'_>,
 ) -> Result<Failures<'a>, ProgramError<'a>> {
     let ImportErrors::Refused(refusals) = errors else {
         return Err(ProgramError::NoMemory);
     };
     let first = failure_of(alloc, &refusals.first)?;
+    if source.is_all_or_nothing {
+        return Err(first.error);
+    }
     let mut others = Vec::new(alloc);
     for problem in &refusals.others {
         add(&mut others, failure_of(alloc, problem)?)?;

@@ -10,7 +10,7 @@ mod packets;
 mod wanting;
 
 pub use file_system::FileSystem;
-pub use importing::{Answers, ImportedText, imported};
+pub use importing::{Answers, ImportedText, MadeScript, imported, made};
 pub use messaging::{files_of, lines_of, read_answers, write_files};
 pub use packets::{PacketTexts, packet_texts};
 pub use wanting::{WantedText, wanted};

@@ -2,10 +2,17 @@
 use Rattle.std.proofs.Common.{◌≡◌, ℕ, List, ◌++◌, ap, sym, ◌∙◌}
 use Rattle.std.proofs.lemmas.List.{append_assoc}
 use Rattle.rb_import_check.specs.declared.chain.Commit.{Commit}
-use Rattle.rb_import_text.proofs.Closings.{eight_in_a_row}
 use Rattle.rb_import.specs.declared.opening.Tally.{Tally}
 use Rattle.rb_import.specs.Openings.{words_on, words_with}
 use Rattle.rb_import.specs.Tallies.{IsTally}
+
+seven_in_a_row : (a b c d e f g : List ℕ) → a ++ (b ++ (c ++ (d ++ (e ++ (f ++ g))))) ≡ a ++ b ++ c ++ d ++ e ++ f ++ g
+seven_in_a_row a b c d e f g =
+    sym (append_assoc (a ++ b ++ c ++ d ++ e) f g ∙ append_assoc (a ++ b ++ c ++ d) e (f ++ g) ∙ append_assoc (a ++ b ++ c) d (e ++ (f ++ g))
+    ∙ append_assoc (a ++ b) c (d ++ (e ++ (f ++ g))) ∙ append_assoc a b (c ++ (d ++ (e ++ (f ++ g)))))
+
+eight_in_a_row : (a b c d e f g h : List ℕ) → a ++ (b ++ (c ++ (d ++ (e ++ (f ++ (g ++ h)))))) ≡ a ++ b ++ c ++ d ++ e ++ f ++ g ++ h
+eight_in_a_row a b c d e f g h = seven_in_a_row a b c d e f (g ++ h) ∙ sym (append_assoc (a ++ b ++ c ++ d ++ e ++ f) g h)
 
 nine_in_a_row : (a b c d e f g h i : List ℕ) → a ++ (b ++ (c ++ (d ++ (e ++ (f ++ (g ++ (h ++ i))))))) ≡ a ++ b ++ c ++ d ++ e ++ f ++ g ++ h ++ i
 nine_in_a_row a b c d e f g h i = eight_in_a_row a b c d e f g (h ++ i) ∙ sym (append_assoc (a ++ b ++ c ++ d ++ e ++ f ++ g) h i)

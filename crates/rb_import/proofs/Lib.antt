@@ -1,9 +1,6 @@
-pub mod Starting
-pub mod Parting
-pub mod Serving
-pub mod Adding
-pub mod Using
-pub mod Orders
+pub mod Added
+pub mod Lists
+pub mod Readable
 pub mod Tallying
 pub mod Firsts
 pub mod Fitting

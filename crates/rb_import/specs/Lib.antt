@@ -1,10 +1,8 @@
+-- the script that a setup and the answers of nodes make, and its text
 pub mod Texts
 pub mod Openings
-pub mod Steps
-pub mod Starts
-pub mod Parts
-pub mod Finding
 pub mod Tallies
 pub mod Shares
+pub mod Events
 pub mod Scripts
 pub mod Reasons

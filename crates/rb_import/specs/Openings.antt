@@ -1,4 +1,4 @@
--- What a script of answers begins with: who verified signatures, and the script's version.
+-- What the text of a script of answers begins with: who verified signatures.
 use Rattle.std.specs.Prelude.{◌≡◌, ◌⊎◌, ℕ, List, [], ◌∷◌, ◌++◌, All, Bool, true, false, if◌then◌else◌, codes, count_by, length, sum_by, string_bytes}
 use Rattle.std.specs.Fmt.{decimal}
 use Rattle.std.specs.List.{flat_map, list_any}

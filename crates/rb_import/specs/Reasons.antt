@@ -11,17 +11,19 @@ use Rattle.rb_import_merge.specs.Named.{NamesNone}
 use Rattle.rb_import_merge.specs.Reasons.{IsOfAnswers}
 use Rattle.rb_import_merge.specs.Seen.{HoldsOfSeen}
 use Rattle.rb_import_merge.specs.declared.seen.Seen.{Seen}
-use Rattle.rb_import.specs.Scripts.{IsTooLong}
 use Rattle.rb_import.specs.Shares.{IsLargest}
 
 -- the error is told of the client that brings the most
 abbrev pub NamesLargest : Setup → Seen → ImportError → Type 0
 NamesLargest setup seen e = (id : List ℕ) × IsLargest setup seen id × IsToldOf id e
 
--- the script would be too big, and so would the one that has those sets alone that are needed; the error is told of the client that brings the most
+-- the script of what was seen would be too big; the error names no file and no number, and is told of the client that brings the most
+abbrev pub IsOfSizeOf : Setup → Seen → ImportError → Type 0
+IsOfSizeOf setup seen e = NamesNone e × IsTold CheckErrorName.ScriptTooBig (NamesLargest setup seen e) e
+
+-- so it is of what was seen in these answers
 abbrev pub IsOfSize : Setup → Signatures → SavedAnswers → ImportError → Type 0
-IsOfSize setup signatures answers e =
-    NamesNone e × IsTold CheckErrorName.ScriptTooBig (HoldsOfSeen setup signatures answers (λ seen. IsTooLong setup answers seen × NamesLargest setup seen e)) e
+IsOfSize setup signatures answers e = HoldsOfSeen setup signatures answers (λ seen. IsOfSizeOf setup seen e)
 
 -- the error has its reason in the answers of a chain, of a client or of a path, or in the size of the script; memory may run out at any
 abbrev pub HasReasonOfScript : Setup → Signatures → SavedAnswers → ImportError → Type 0

@@ -1,13 +1,15 @@
-//! The script that a setup and the answers of nodes make (`rb_import_check`, `rb_import_merge`), with its
-//! notices (`rb_import_notices`).
+//! The script that a setup and the answers of nodes make (`rb_import_check`, `rb_import_merge`), with its notices
+//! (`rb_import_notices`), and its text.
 #![tactic(auto)]
 
+mod chains;
+mod clients;
 mod composing;
-mod needed;
+mod config;
+mod made;
 mod opening;
-mod order;
+mod paths;
+mod read;
 mod shares;
-mod starts;
-mod steps;
 
-pub use composing::{Composed, compose};
+pub use composing::{Composed, Made, compose, make};

@@ -10,7 +10,7 @@ ghost use Rattle.rb_script_read.specs.Scripts.{script, script_of};
 
 use crate::ready::sets_of_turn;
 use crate::turn::{Reading, read_turn_at};
-use crate::work::check_turns;
+use crate::work::check_work;
 use rb_script_config::{Setup, read_setup, read_tables};
 use rb_script_toml::{RunError, Section, read_table};
 use rb_script_types::{Script, Turn};
@@ -68,11 +68,12 @@ fn read_document(alloc: Global, table: &Table) -> Result<Script, RunError>
     let tables = read_tables(section)?;
     let setup = read_setup(alloc, tables)?;
     let turns = read_turns(alloc, tables.turns, &setup, &mut Reading::opening(alloc))?;
-    check_turns(alloc, &setup, turns.as_slice())?;
-    Ok(Script {
+    let script = Script {
         config: setup.into_config(),
         turns,
-    })
+    };
+    check_work(alloc, &script)?;
+    Ok(script)
 }
 
 #[tactic(auto, using(rb_script_toml::proofs::Steps::steps), unfolding(crate::specs::Scripts::script))]
@@ -93,11 +94,12 @@ fn read_document_by<R: Threads + Sync>(
     let setup = read_setup(alloc, tables)?;
     let mut reading = Reading::opening(alloc);
     let turns = read_turns_by(rt, alloc, tables.turns, &setup, &mut reading, threads)?;
-    check_turns(alloc, &setup, turns.as_slice())?;
-    Ok(Script {
+    let script = Script {
         config: setup.into_config(),
         turns,
-    })
+    };
+    check_work(alloc, &script)?;
+    Ok(script)
 }
 
 /// Reads the script that a text holds, or answers the first fault of the text, in the order of

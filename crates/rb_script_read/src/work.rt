@@ -1,16 +1,15 @@
 //! How much the turns of a script ask for.
-ghost use Rattle.std.specs.Prelude.{◌≡◌, ◌+◌, ◌*◌, codes, get_or, map, min, set, IfOk};
-ghost use Rattle.rb_script_types.specs.Script.{script_view, turn_view};
+ghost use Rattle.std.specs.Prelude.{◌≡◌, ◌+◌, ◌*◌, codes, get_or, min, set, IfOk};
+ghost use Rattle.rb_script_types.specs.Script.{script_view};
 ghost use Rattle.rb_script_toml.specs.Faults.{Gives, IsFault};
 ghost use Rattle.rb_script_toml.specs.KeyPaths.{element};
-ghost use Rattle.rb_script_config.specs.Setups.{setup_view};
+ghost use Rattle.rb_script_types.specs.Config.{config_view};
 ghost use Rattle.rb_script_read.specs.Events.{tracked_by};
 ghost use Rattle.rb_script_read.specs.Work.{after_client, after_clients, after_event, after_events, after_packets, after_path, after_paths, after_tables, after_turn, carried, counted, is_little, larger_by_record, larger_by_set, little, moved_for, no_store, no_work, numbers_after, plan_work, stores_of, sums_after, walked, with_record, with_set, work_view};
 
 use rb_base::{CarriedVotes, Height};
-use rb_script_config::Setup;
 use rb_script_toml::{FaultName, RunError, element_path, fault_at};
-use rb_script_types::{ClientConfig, Observation, PathConfig, Script, Turn};
+use rb_script_types::{ClientConfig, Config, Observation, PathConfig, Script};
 use std::alloc::{AllocError, Global};
 
 /// So many units of work, each of some ten nanoseconds, all turns may ask for.
@@ -343,13 +342,13 @@ impl Work {
     }
 
     /// Counts a turn with these events.
-    fn count_turn(&mut self, setup: &Setup, events: &[Observation])
-        ensures { work_view self.new ≡ after_turn (setup_view setup.now) (work_view self.old) events.now }
+    fn count_turn(&mut self, config: &Config, events: &[Observation])
+        ensures { work_view self.new ≡ after_turn (config_view config.now) (work_view self.old) events.now }
     {
-        self.count_events(setup.limit, setup.clients.as_slice(), events);
+        self.count_events(config.limit, config.clients.as_slice(), events);
         self.count_tables();
-        self.count_clients(setup.clients.as_slice());
-        self.count_paths(setup.paths.as_slice());
+        self.count_clients(config.clients.as_slice());
+        self.count_paths(config.paths.as_slice());
         self.count_packets();
     }
 }
@@ -379,14 +378,16 @@ fn too_much_at(alloc: Global, index: usize) -> RunError
     }
 }
 
-/// Refuses the first turn up to which the turns ask for more than they may.
+/// Refuses the first turn of a script up to which the turns ask for more than they may: `Fault` is `TooMuchToPlan` at it.
+/// `NoMemory` comes where a growth is refused.
 #[tactic(auto, using(rb_script_toml::proofs::Steps::steps))]
-pub(crate) fn check_turns(alloc: Global, setup: &Setup, turns: &[Turn]) -> Result<(), RunError>
-    ensures { Gives (λ u. u) result (little (setup_view setup.now) (map turn_view turns.now)) }
+pub fn check_work(alloc: Global, script: &Script) -> Result<(), RunError>
+    ensures { Gives (λ u. u) result (little (script_view script.now).config (script_view script.now).turns) }
 {
-    let mut work = Work::new(alloc, setup.chains.as_slice().len())?;
-    for (index, turn) in turns.iter().enumerate() {
-        work.count_turn(setup, turn.events.as_slice());
+    let config = &script.config;
+    let mut work = Work::new(alloc, config.chains.len())?;
+    for (index, turn) in script.turns.iter().enumerate() {
+        work.count_turn(config, turn.events.as_slice());
         if !work.is_little() {
             return Err(too_much_at(alloc, index));
         }

@@ -1,0 +1,119 @@
+//! What a script is set up with.
+ghost use Rattle.std.specs.Prelude.{◌≡◌, IfOk, IfSome, IsSomeAnd, map, slice_get, zip};
+ghost use Rattle.std.specs.List.{enumerate_from};
+ghost use Rattle.rb_script_types.specs.Config.{config_view};
+ghost use Rattle.rb_import.specs.Scripts.{client_in, config_in, path_in};
+
+use crate::made::MakeError;
+use rb_base::{CarriedVotes, Fraction, Options, Ties};
+use rb_book::MAX_RECORDS;
+use rb_import_check::{SavedAnswers, SeenClient};
+use rb_import_merge::{Seen, answers_at, first_of};
+use rb_import_setup::{ClientSetup, PathSetup, Setup};
+use rb_scan::Sequence;
+use rb_script_types::{ClientConfig, Config, PathConfig, RefreshTo, Version};
+use std::alloc::Global;
+
+/// The chains, clients and paths.
+pub(crate) fn config_of(
+    alloc: Global,
+    setup: &Setup,
+    answers: &SavedAnswers,
+    seen: &Seen<'_>,
+) -> Result<Config, MakeError>
+    ensures { IfOk result (λ config. config_view config ≡ config_in setup.now answers.now seen.now) }
+{
+    let chains = Vec::from_slice(alloc, setup.chains.as_slice())?;
+    let clients = clients_of(alloc, setup, seen)?;
+    let paths = paths_of(alloc, setup, answers)?;
+    Ok(Config {
+        version: Version::Four,
+        limit: MAX_RECORDS,
+        chains,
+        clients,
+        paths,
+    })
+}
+
+fn clients_of(alloc: Global, setup: &Setup, seen: &Seen<'_>) -> Result<Vec<ClientConfig>, MakeError>
+    ensures { IfOk result (λ clients. clients.items ≡ map client_in (zip setup.now.clients.items seen.now.clients.items)) }
+{
+    let mut clients = Vec::with_capacity(alloc, setup.clients.len())?;
+    for (place, client) in setup.clients.iter().enumerate() {
+        match client_at(seen, place, client) {
+            Some(client) => clients.push(client)?,
+            None => return Err(MakeError::TooBig),
+        }
+    }
+    Ok(clients)
+}
+
+/// The client at a place, by what was seen of it.
+fn client_at(seen: &Seen<'_>, place: usize, client: &ClientSetup) -> Option<ClientConfig>
+    ensures { IfSome result (λ config. IsSomeAnd (slice_get seen.now.clients.items place) (λ one. config ≡ client_in (client.now, one))) }
+{
+    client_of(client, seen.clients.get(place)?)
+}
+
+/// A client, which judges headers as the setup says, or else its state; none where a number is outside its range.
+fn client_of(client: &ClientSetup, seen: &SeenClient<'_>) -> Option<ClientConfig>
+    ensures { IfSome result (λ config. config ≡ client_in (client.now, seen.now)) }
+{
+    let options = options_of(seen)?;
+    let usual = seen.period.nanoseconds() / 3;
+    Some(ClientConfig {
+        id: client.id,
+        host: client.host,
+        tracks: client.tracks,
+        options,
+        refresh: client.terms.refresh.unwrap_or(usual),
+        refresh_to: RefreshTo::Newer,
+        fees: client.terms.fees,
+        gas: client.terms.gas,
+        limits: client.terms.limits,
+    })
+}
+
+fn options_of(seen: &SeenClient<'_>) -> Option<Options>
+    ensures { IfSome result (λ options. options ≡ record { period = seen.now.period; drift = seen.now.drift; trust = record { numerator = seen.now.trust.numerator; denominator = seen.now.trust.denominator }; votes = CarriedVotes.Cast; ties = Ties.Higher }) }
+{
+    if seen.drift > i64::MAX as u64 {
+        return None;
+    }
+    let trust = Fraction::new(seen.trust.numerator, seen.trust.denominator).ok()?;
+    let options = Options::new(seen.period, seen.drift);
+    Some(
+        options
+            .with_trust(trust)
+            .with_votes(CarriedVotes::Cast)
+            .with_ties(Ties::Higher),
+    )
+}
+
+fn paths_of(
+    alloc: Global,
+    setup: &Setup,
+    answers: &SavedAnswers,
+) -> Result<Vec<PathConfig>, MakeError>
+    ensures { IfOk result (λ paths. paths.items ≡ map (path_in answers.now) (enumerate_from 0 setup.now.paths.items)) }
+{
+    let mut paths = Vec::with_capacity(alloc, setup.paths.len())?;
+    for (place, path) in setup.paths.iter().enumerate() {
+        match path_of(answers, place, path) {
+            Some(path) => paths.push(path)?,
+            None => return Err(MakeError::TooBig),
+        }
+    }
+    Ok(paths)
+}
+
+/// The path at a place, with its first sequence; none where that is outside its range.
+fn path_of(answers: &SavedAnswers, place: usize, path: &PathSetup) -> Option<PathConfig>
+    ensures { IfSome result (λ config. config ≡ path_in answers.now (place, path.now)) }
+{
+    let first = Sequence::new(first_of(path, answers_at(&answers.paths, place)))?;
+    Some(PathConfig {
+        first,
+        ..path.config
+    })
+}

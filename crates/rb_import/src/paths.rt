@@ -1,0 +1,190 @@
+//! The events of paths: their packets, and that they were closed.
+ghost use Rattle.std.specs.Prelude.{◌≡◌, ◌++◌, IfSome, IfOk, OnOk, map, slice_get};
+ghost use Rattle.rb_import.specs.Events.{block_of, closing, events_of, packet_by, packet_in, path_at, path_events, paths_events, time_at, unless_zero, writer_of};
+
+use crate::made::MakeError;
+use rb_base::{Height, Moment};
+use rb_import_answers::{PacketEvent, PacketKind};
+use rb_import_merge::{Seen, SeenPacket, SeenPath};
+use rb_import_setup::Setup;
+use rb_scan::{Order, Sequence};
+use rb_script_types::{Block, BlockHeight, Observation, PathConfig};
+
+/// Adds the packets of each path, and that it was closed.
+#[tactic(auto, unfolding(crate::specs::Events::paths_events))]
+pub(crate) fn push_paths(
+    events: &mut Vec<Observation>,
+    setup: &Setup,
+    seen: &Seen<'_>,
+) -> Result<(), MakeError>
+    ensures { OnOk result (events.new.items ≡ events.old.items ++ paths_events setup.now seen.now) }
+{
+    for (place, path) in setup.paths.iter().enumerate() {
+        push_path_at(events, seen, place, &path.config)?;
+    }
+    Ok(())
+}
+
+fn push_path_at(
+    events: &mut Vec<Observation>,
+    seen: &Seen<'_>,
+    place: usize,
+    path: &PathConfig,
+) -> Result<(), MakeError>
+    ensures { OnOk result (events.new.items ≡ events.old.items ++ events_of seen.now place path.now (slice_get seen.now.paths.items place)) }
+{
+    match seen.paths.get(place) {
+        Some(it) => push_path(events, seen, place, path, it),
+        None => Ok(()),
+    }
+}
+
+#[tactic(auto, using(crate::proofs::Added::added), unfolding(crate::specs::Events::path_events))]
+fn push_path(
+    events: &mut Vec<Observation>,
+    seen: &Seen<'_>,
+    place: usize,
+    path: &PathConfig,
+    it: &SeenPath<'_>,
+) -> Result<(), MakeError>
+    ensures { OnOk result (events.new.items ≡ events.old.items ++ path_events seen.now place path.now it.now) }
+{
+    push_packets(events, seen, place, path, it.packets.as_slice())?;
+    push_closing(events, place, path, it.timed_out)
+}
+
+fn push_packets(
+    events: &mut Vec<Observation>,
+    seen: &Seen<'_>,
+    place: usize,
+    path: &PathConfig,
+    packets: &[SeenPacket<'_>],
+) -> Result<(), MakeError>
+    ensures { OnOk result (events.new.items ≡ events.old.items ++ map (packet_in seen.now place path.now) packets.now) }
+{
+    for packet in packets {
+        match packet_in(seen, place, path, packet) {
+            Some(event) => events.push(event)?,
+            None => return Err(MakeError::TooBig),
+        }
+    }
+    Ok(())
+}
+
+/// The event of a packet; none where a number of it is outside its range.
+fn packet_in(
+    seen: &Seen<'_>,
+    place: usize,
+    path: &PathConfig,
+    packet: &SeenPacket<'_>,
+) -> Option<Observation>
+    ensures { IfSome result (λ event. event ≡ packet_in seen.now place path.now packet.now) }
+{
+    let event = packet.event;
+    let sequence = Sequence::new(event.sequence)?;
+    let block = block_of(seen, path, event)?;
+    match event.kind {
+        PacketKind::Sent => sent(place, sequence, block, packet),
+        PacketKind::Received => Some(Observation::Received {
+            path: place,
+            sequence,
+            block: block.height,
+        }),
+        PacketKind::AckWritten => Some(Observation::AckWritten {
+            path: place,
+            sequence,
+            block,
+        }),
+        PacketKind::Cleared | PacketKind::TimedOut => Some(Observation::Cleared {
+            path: place,
+            sequence,
+        }),
+    }
+}
+
+fn sent(
+    place: usize,
+    sequence: Sequence,
+    block: Block,
+    packet: &SeenPacket<'_>,
+) -> Option<Observation>
+    ensures { IfSome result (λ event. event ≡ Observation.Sent place sequence block (unless_zero packet.now.expiry) (unless_zero packet.now.event.now.timeout_time)) }
+{
+    Some(Observation::Sent {
+        path: place,
+        sequence,
+        block,
+        timeout_height: timeout_height(packet.expiry)?,
+        timeout_time: timeout_time(packet.event.timeout_time),
+    })
+}
+
+/// A height, and none for 0; `None` where it is outside its range.
+fn timeout_height(height: u64) -> Option<Option<Height>>
+    ensures { IfSome result (λ found. found ≡ unless_zero height) }
+{
+    if height == 0 {
+        return Some(None);
+    }
+    let height = Height::new(height)?;
+    Some(Some(height))
+}
+
+/// The moment of so many nanoseconds, and none for 0.
+fn timeout_time(nanoseconds: u64) -> Option<Moment>
+    ensures { result ≡ unless_zero nanoseconds }
+{
+    if nanoseconds == 0 {
+        None
+    } else {
+        Some(Moment::new(u128::from(nanoseconds)).unwrap())
+    }
+}
+
+/// The block that an event of a path's packet stands in, and its time, where a header of it was seen; none where its
+/// height is outside its range.
+fn block_of(seen: &Seen<'_>, path: &PathConfig, event: &PacketEvent) -> Option<Block>
+    ensures { IfSome result (λ block. block ≡ block_of seen.now path.now event.now) }
+{
+    let height = BlockHeight::new(event.block.get())?;
+    let time = match writer_of(path, event.kind) {
+        Some(place) => time_at(seen, place, event.block),
+        None => None,
+    };
+    Some(Block { height, time })
+}
+
+/// The chain whose block an event stands in, where messages wait from its time on.
+fn writer_of(path: &PathConfig, kind: PacketKind) -> Option<usize>
+    ensures { result ≡ writer_of path.now kind }
+{
+    match kind {
+        PacketKind::Sent => Some(path.source),
+        PacketKind::AckWritten => Some(path.destination),
+        PacketKind::Received | PacketKind::Cleared | PacketKind::TimedOut => None,
+    }
+}
+
+fn time_at(seen: &Seen<'_>, place: usize, height: Height) -> Option<Moment>
+    ensures { result ≡ time_at seen.now place height }
+{
+    seen.chains.get(place)?.block_time(height)
+}
+
+/// Adds that an ordered path of which a packet timed out is closed (ICS 4).
+fn push_closing(
+    events: &mut Vec<Observation>,
+    place: usize,
+    path: &PathConfig,
+    timed_out: bool,
+) -> Result<(), MakeError>
+    ensures { OnOk result (events.new.items ≡ events.old.items ++ closing place path.now timed_out) }
+{
+    match path.order {
+        Order::Ordered if timed_out => {
+            events.push(Observation::Closed { path: place })?;
+            Ok(())
+        }
+        Order::Ordered | Order::Unordered => Ok(()),
+    }
+}

@@ -1,4 +1,0 @@
-pub mod Texts
-pub mod EventTexts
-pub mod HappenedTexts
-pub mod TableTexts
