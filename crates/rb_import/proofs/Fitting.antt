@@ -1,5 +1,6 @@
 -- What the text of a script begins with, and why there is none.
-use Rattle.std.proofs.Common.{◌≡◌, ◌≤◌, ℕ, List, ◌++◌, Bool, true, false, cond, All, Result, Ok, Err, IfOk, IfErr, length, string_bytes, inl, inr, refl, ap, ◌∙◌}
+use Rattle.std.proofs.Common.{◌≡◌, ◌≤◌, ℕ, List, [], ◌∷◌, ◌++◌, Bool, true, false, cond, All, Result, Ok, Err, IfOk, IfErr, get_or, length, string_bytes, inl, inr, refl, ap, ◌∙◌, subst, sym}
+use Rattle.std.proofs.lemmas.List.Elements.{All-cons, All-nil}
 use Rattle.std.specs.Str.{chars}
 use Rattle.std.specs.declared.alloc.Global.{Global}
 use Rattle.rb_script_types.specs.Script.{script_view}
@@ -10,10 +11,14 @@ use Rattle.rb_import_answers.proofs.PlainTexts.{are_plain}
 use Rattle.rb_import_setup.specs.Documents.{max_bytes}
 use Rattle.rb_import_setup.specs.declared.setup.Setup.{Setup}
 use Rattle.rb_import_check.specs.Errors.{IsTooBig}
+use Rattle.rb_import_check.specs.declared.error.CheckError.{CheckError}
 use Rattle.rb_import_check.specs.declared.error.ImportError.{ImportError}
 use Rattle.rb_import_check.specs.declared.error.ImportError.TheVariants as errors
 use Rattle.rb_import_check.specs.declared.saved.SavedAnswers.{SavedAnswers}
 use Rattle.rb_import_check.specs.declared.signed.Signatures.{Signatures}
+use Rattle.rb_import_merge.specs.declared.errors.ImportErrors.{ImportErrors}
+use Rattle.rb_import_merge.specs.declared.errors.ImportErrors.TheVariants as all
+use Rattle.rb_import_merge.specs.Errors.{AreAlone, OfEach}
 use Rattle.rb_import_merge.specs.Reasons.{HasReasonIn}
 use Rattle.rb_import_merge.specs.Seen.{HoldsOfSeen, IsSeenIn}
 use Rattle.rb_import_merge.specs.declared.seen.Seen.{Seen}
@@ -51,22 +56,26 @@ pub begins_as : (answers : SavedAnswers) (seen : Seen) (text head : List ℕ) �
     → ((tables : List ℕ) × (text ≡ head ++ tables)) → BeginsAs answers seen text
 begins_as answers seen text head is (tables, begins) = (tables, begins ∙ ap (λ h. h ++ tables) is)
 
+-- what follows of each problem by itself
+of_each : (P Q : ImportError → Type 0) (e : ImportErrors) → ((p : CheckError) → P (errors.CheckError p) → Q (errors.CheckError p)) → OfEach P e → OfEach Q e
+of_each P Q (all.Refused r) follows each = λ k d small. follows (get_or (r.first ∷ r.others.items) k d) (each k d small)
+of_each P Q all.NoMemory follows each = tt
+
+-- what holds of a problem holds of each where it is alone
+pub of_alone : (Holds : ImportError → Type 0) (p : ImportError) (e : ImportErrors) → AreAlone p e → Holds p → OfEach Holds e
+of_alone Holds (errors.CheckError p) (all.Refused r) is holds =
+    let Of : CheckError → Type 0 = λ q. Holds (errors.CheckError q) in
+    subst (All Of) is (All-cons Of p [] holds (All-nil Of))
+of_alone Holds (errors.CheckError p) all.NoMemory is holds = absurd is
+of_alone Holds errors.NoMemory e is holds = subst (OfEach Holds) (sym is) tt
+
 -- a reason in the answers is one of the script
-pub of_answers : (setup : Setup) (signatures : Signatures) (answers : SavedAnswers) (e : ImportError) → HasReasonIn setup answers e → HasReasonOfScript setup signatures answers e
-of_answers setup signatures answers (errors.CheckError p) w = inl w
-of_answers setup signatures answers errors.NoMemory w = tt
+pub of_answers : (setup : Setup) (signatures : Signatures) (answers : SavedAnswers) (e : ImportErrors) → OfEach (HasReasonIn setup answers) e → OfEach (HasReasonOfScript setup signatures answers) e
+of_answers setup signatures answers e each = of_each (HasReasonIn setup answers) (HasReasonOfScript setup signatures answers) e (λ p w. inl w) each
 
--- so is one in the size of what was seen
-pub of_size : (setup : Setup) (signatures : Signatures) (answers : SavedAnswers) (seen : Seen) (e : ImportError) → IsSeenIn setup signatures answers seen
-    → IsOfSizeOf setup seen e → HasReasonOfScript setup signatures answers e
-of_size setup signatures answers seen (errors.CheckError p) is w = inr (seen, is, w)
-of_size setup signatures answers seen errors.NoMemory is w = tt
-
--- which is told of the largest client
-pub of_largest : (setup : Setup) (signatures : Signatures) (answers : SavedAnswers) (seen : Seen) (e : ImportError) → IsSeenIn setup signatures answers seen
-    → IsOfSizeOf setup seen e → IsTooBig e → HoldsOfSeen setup signatures answers (λ s. NamesLargest setup s e)
-of_largest setup signatures answers seen (errors.CheckError p) is w big = (seen, is, w.1.1)
-of_largest setup signatures answers seen errors.NoMemory is w big = absurd big
+-- none is that the script would be too big
+pub none_too_big : (Tells : ImportError → Type 0) (e : ImportErrors) → OfEach (λ p. ¬ IsTooBig p) e → OfEach (λ p. IsTooBig p → Tells p) e
+none_too_big Tells e each = of_each (λ p. ¬ IsTooBig p) (λ p. IsTooBig p → Tells p) e (λ p never big. absurd (never big)) each
 
 -- what was made of what was seen
 pub made_in : {E : Type 0} (setup : Setup) (signatures : Signatures) (answers : SavedAnswers) (seen : Seen) (r : Result Made E) → IsSeenIn setup signatures answers seen
@@ -91,15 +100,18 @@ pub written_short : {E : Type 0} (setup : Setup) (answers : SavedAnswers) (seen 
 written_short setup answers seen (Ok t) text = is_short setup answers seen (string_bytes t.text) text
 written_short setup answers seen (Err e) text = tt
 
-pub all_of_size : {T : Type 0} (setup : Setup) (signatures : Signatures) (answers : SavedAnswers) (seen : Seen) (r : Result T ImportError) → IsSeenIn setup signatures answers seen
-    → IfErr r (IsOfSizeOf setup seen) → IfErr r (HasReasonOfScript setup signatures answers)
+-- a reason in the size of what was seen is one of the script
+pub all_of_size : {T : Type 0} (setup : Setup) (signatures : Signatures) (answers : SavedAnswers) (seen : Seen) (r : Result T ImportErrors) → IsSeenIn setup signatures answers seen
+    → IfErr r (OfEach (IsOfSizeOf setup seen)) → IfErr r (OfEach (HasReasonOfScript setup signatures answers))
 all_of_size setup signatures answers seen (Ok t) is w = tt
-all_of_size setup signatures answers seen (Err e) is w = of_size setup signatures answers seen e is w
+all_of_size setup signatures answers seen (Err e) is w = of_each (IsOfSizeOf setup seen) (HasReasonOfScript setup signatures answers) e (λ p size. inr (seen, is, size)) w
 
-pub all_of_largest : {T : Type 0} (setup : Setup) (signatures : Signatures) (answers : SavedAnswers) (seen : Seen) (r : Result T ImportError) → IsSeenIn setup signatures answers seen
-    → IfErr r (IsOfSizeOf setup seen) → IfErr r (λ e. IsTooBig e → HoldsOfSeen setup signatures answers (λ s. NamesLargest setup s e))
+-- which is told of the largest client
+pub all_of_largest : {T : Type 0} (setup : Setup) (signatures : Signatures) (answers : SavedAnswers) (seen : Seen) (r : Result T ImportErrors) → IsSeenIn setup signatures answers seen
+    → IfErr r (OfEach (IsOfSizeOf setup seen)) → IfErr r (OfEach (λ e. IsTooBig e → HoldsOfSeen setup signatures answers (λ s. NamesLargest setup s e)))
 all_of_largest setup signatures answers seen (Ok t) is w = tt
-all_of_largest setup signatures answers seen (Err e) is w = of_largest setup signatures answers seen e is w
+all_of_largest setup signatures answers seen (Err e) is w =
+    of_each (IsOfSizeOf setup seen) (λ p. IsTooBig p → HoldsOfSeen setup signatures answers (λ s. NamesLargest setup s p)) e (λ p size big. (seen, is, size.1.1)) w
 
 -- a text that the reader reads as the script of what was seen, behind the opening line and the heading
 pub fits : (setup : Setup) (answers : SavedAnswers) (seen : Seen) (text : List ℕ) (script : CodeScript Global) → IsMadeOf setup answers seen script

@@ -1,6 +1,11 @@
 use Rattle.std.proofs.Common.{rules}
-use Rattle.rb_import.specs.Reasons.{HasReasonOfScript}
-use Rattle.rb_import.proofs.Fitting.{all_of_largest, all_of_size, made_in, of_answers}
+use Rattle.rb_import_check.specs.Errors.{IsTooBig}
+use Rattle.rb_import_check.specs.declared.error.ImportError.{ImportError}
+use Rattle.rb_import_merge.specs.Errors.{OfEach}
+use Rattle.rb_import_merge.specs.Seen.{HoldsOfSeen}
+use Rattle.rb_import_merge.proofs.Judging.{refused_so}
+use Rattle.rb_import.specs.Reasons.{HasReasonOfScript, NamesLargest}
+use Rattle.rb_import.proofs.Fitting.{all_of_largest, all_of_size, made_in, none_too_big, of_answers}
 use Rattle.rb_import.proofs.composing.make.Goals as goal
 
 pub returns-clause-script : goal.returns-clause-script
@@ -14,6 +19,11 @@ returns-clause-big c = all_of_largest _ _ _ c.in_ok-seen.seen c.made_of.result c
 
 pub returns-in_err-seen-clause-reason : goal.returns-in_err-seen-clause-reason
 returns-in_err-seen-clause-reason c =
-    let e = c.in_err-seen.field-0.0 in
-    let reason : HasReasonOfScript c.args.setup.now c.args.signatures c.args.answers.now e = of_answers c.args.setup.now c.args.signatures c.args.answers.now e c.in_err-seen.ensures.reason in
-    search rules
+    let Holds : ImportError → Type 0 = HasReasonOfScript c.args.setup.now c.args.signatures c.args.answers.now in
+    refused_so (OfEach Holds) c.from_residual.result c.in_err-seen.field-0.0 (search rules)
+    (of_answers c.args.setup.now c.args.signatures c.args.answers.now c.in_err-seen.field-0.0 c.in_err-seen.ensures.reason)
+
+pub returns-in_err-seen-clause-big : goal.returns-in_err-seen-clause-big
+returns-in_err-seen-clause-big c =
+    let Tells : ImportError → Type 0 = λ p. HoldsOfSeen c.args.setup.now c.args.signatures c.args.answers.now (λ seen. NamesLargest c.args.setup.now seen p) in
+    refused_so (OfEach (λ p. IsTooBig p → Tells p)) c.from_residual.result c.in_err-seen.field-0.0 (search rules) (none_too_big Tells c.in_err-seen.field-0.0 c.in_err-seen.ensures.names)
