@@ -1,7 +1,9 @@
 -- What the text of a script begins with, and why there is none.
-use Rattle.std.proofs.Common.{◌≡◌, ◌≤◌, ◌×◌, ℕ, List, ◌++◌, Bool, true, false, cond, All, Ok, length, inl, inr, refl, ap, ◌∙◌, sym}
-use Rattle.std.proofs.lemmas.List.{append_assoc}
+use Rattle.std.proofs.Common.{◌≡◌, ◌≤◌, ℕ, List, ◌++◌, Bool, true, false, cond, All, Result, Ok, Err, IfOk, IfErr, length, string_bytes, inl, inr, refl, ap, ◌∙◌}
 use Rattle.std.specs.Str.{chars}
+use Rattle.std.specs.declared.alloc.Global.{Global}
+use Rattle.rb_script_types.specs.Script.{script_view}
+use Rattle.rb_script_types.specs.declared.script.Script.{Script as CodeScript}
 use Rattle.rb_script_read.specs.Scripts.{script_of}
 use Rattle.rb_import_answers.specs.Said.{IsPlain}
 use Rattle.rb_import_answers.proofs.PlainTexts.{are_plain}
@@ -15,10 +17,13 @@ use Rattle.rb_import_check.specs.declared.signed.Signatures.{Signatures}
 use Rattle.rb_import_merge.specs.Reasons.{HasReasonIn}
 use Rattle.rb_import_merge.specs.Seen.{HoldsOfSeen, IsSeenIn}
 use Rattle.rb_import_merge.specs.declared.seen.Seen.{Seen}
+use Rattle.rb_import_notices.specs.Whole.{AreNoticesOf}
 use Rattle.rb_import.specs.Openings.{IsOpening, Opens, credit, hold_verdicts, opening_of, seen_commits, verifier_of, warning, words_of, words_on}
 use Rattle.rb_import.specs.Reasons.{HasReasonOfScript, IsOfSizeOf, NamesLargest}
-use Rattle.rb_import.specs.Scripts.{BeginsAs, IsFitting}
+use Rattle.rb_import.specs.Scripts.{BeginsAs, IsFitting, IsMadeOf}
 use Rattle.rb_import.specs.Texts.{heading}
+use Rattle.rb_import.specs.declared.composing.Composed.{Composed}
+use Rattle.rb_import.specs.declared.composing.Made.{Made}
 
 line_by : (b : Bool) (words : List ℕ) → All IsPlain words → IsOpening b (cond b (credit words) warning)
 line_by true words plain = inl (refl, (words, plain, refl))
@@ -62,3 +67,42 @@ pub of_largest : (setup : Setup) (signatures : Signatures) (answers : SavedAnswe
     → IsOfSizeOf setup seen e → IsTooBig e → HoldsOfSeen setup signatures answers (λ s. NamesLargest setup s e)
 of_largest setup signatures answers seen (errors.CheckError p) is w big = (seen, is, w.1.1)
 of_largest setup signatures answers seen errors.NoMemory is w big = absurd big
+
+-- what was made of what was seen
+pub made_in : {E : Type 0} (setup : Setup) (signatures : Signatures) (answers : SavedAnswers) (seen : Seen) (r : Result Made E) → IsSeenIn setup signatures answers seen
+    → IfOk r (λ m. AreNoticesOf setup answers seen m.notices) → IfOk r (λ m. IsMadeOf setup answers seen m.script)
+    → IfOk r (λ m. HoldsOfSeen setup signatures answers (λ s. AreNoticesOf setup answers s m.notices × IsMadeOf setup answers s m.script))
+made_in setup signatures answers seen (Ok m) is notices script = (seen, is, (notices, script))
+made_in setup signatures answers seen (Err e) is notices script = tt
+
+pub written_in : {E : Type 0} (setup : Setup) (signatures : Signatures) (answers : SavedAnswers) (seen : Seen) (r : Result Composed E) → IsSeenIn setup signatures answers seen
+    → IfOk r (λ t. AreNoticesOf setup answers seen t.notices) → IfOk r (λ t. IsFitting setup answers seen (string_bytes t.text))
+    → IfOk r (λ t. HoldsOfSeen setup signatures answers (λ s. AreNoticesOf setup answers s t.notices × IsFitting setup answers s (string_bytes t.text)))
+written_in setup signatures answers seen (Ok t) is notices text = (seen, is, (notices, text))
+written_in setup signatures answers seen (Err e) is notices text = tt
+
+pub written_opens : {E : Type 0} (setup : Setup) (answers : SavedAnswers) (seen : Seen) (r : Result Composed E) → IfOk r (λ t. IsFitting setup answers seen (string_bytes t.text))
+    → IfOk r (λ t. Opens (hold_verdicts answers) (string_bytes t.text))
+written_opens setup answers seen (Ok t) text = opens_fitting setup answers seen (string_bytes t.text) text
+written_opens setup answers seen (Err e) text = tt
+
+pub written_short : {E : Type 0} (setup : Setup) (answers : SavedAnswers) (seen : Seen) (r : Result Composed E) → IfOk r (λ t. IsFitting setup answers seen (string_bytes t.text))
+    → IfOk r (λ t. length (string_bytes t.text) ≤ max_bytes)
+written_short setup answers seen (Ok t) text = is_short setup answers seen (string_bytes t.text) text
+written_short setup answers seen (Err e) text = tt
+
+pub all_of_size : {T : Type 0} (setup : Setup) (signatures : Signatures) (answers : SavedAnswers) (seen : Seen) (r : Result T ImportError) → IsSeenIn setup signatures answers seen
+    → IfErr r (IsOfSizeOf setup seen) → IfErr r (HasReasonOfScript setup signatures answers)
+all_of_size setup signatures answers seen (Ok t) is w = tt
+all_of_size setup signatures answers seen (Err e) is w = of_size setup signatures answers seen e is w
+
+pub all_of_largest : {T : Type 0} (setup : Setup) (signatures : Signatures) (answers : SavedAnswers) (seen : Seen) (r : Result T ImportError) → IsSeenIn setup signatures answers seen
+    → IfErr r (IsOfSizeOf setup seen) → IfErr r (λ e. IsTooBig e → HoldsOfSeen setup signatures answers (λ s. NamesLargest setup s e))
+all_of_largest setup signatures answers seen (Ok t) is w = tt
+all_of_largest setup signatures answers seen (Err e) is w = of_largest setup signatures answers seen e is w
+
+-- a text that the reader reads as the script of what was seen, behind the opening line and the heading
+pub fits : (setup : Setup) (answers : SavedAnswers) (seen : Seen) (text : List ℕ) (script : CodeScript Global) → IsMadeOf setup answers seen script
+    → script_of text ≡ Ok (script_view script) → BeginsAs answers seen text → length text ≤ max_bytes → IsFitting setup answers seen text
+unfolding IsFitting
+fits setup answers seen text script is read begins short = (read ∙ ap Ok is, begins, short)

@@ -2,9 +2,9 @@
 use Rattle.std.specs.Prelude.{ℕ, ◌==◌, Bool, true, false, ◌&&◌, if◌then◌else◌, List, [], ◌∷◌, ◌++◌, map, reverse, Option, Some, None, option_map, option_to_list, slice_get, Vec}
 use Rattle.std.specs.Global.{Global as GlobalAllocator}
 use Rattle.std.specs.declared.alloc.Global.{Global}
-use Rattle.std.specs.List.{enumerate_from, flat_map, list_any}
+use Rattle.std.specs.List.{enumerate_from, flat_map}
 use Rattle.std.specs.Option.{option_and_then}
-use Rattle.rb_book.specs.Header.{Header, Record}
+use Rattle.rb_book.specs.Header.{Header}
 use Rattle.rb_book.specs.declared.vote.Vote.{Vote}
 use Rattle.rb_book.specs.declared.vote.Vote.TheVariants as votes
 use Rattle.rb_scan.specs.declared.path.Order.{Order}
@@ -13,11 +13,9 @@ use Rattle.rb_script_types.specs.declared.block.Block.{Block}
 use Rattle.rb_script_types.specs.declared.config.PathConfig.{PathConfig}
 use Rattle.rb_script_types.specs.declared.observation.Observation.{Observation}
 use Rattle.rb_script_types.specs.declared.observation.Observation.TheVariants.{SetSeen, HeaderSeen, StoredSeen, Sent, Received, AckWritten, Cleared, Closed}
-use Rattle.rb_import_answers.specs.declared.client.ConsensusState.{ConsensusState}
 use Rattle.rb_import_answers.specs.declared.commit.BlockIdFlag.{BlockIdFlag}
 use Rattle.rb_import_answers.specs.declared.commit.BlockIdFlag.TheVariants as flags
 use Rattle.rb_import_answers.specs.declared.commit.Signature.{Signature}
-use Rattle.rb_import_answers.specs.declared.commit.SignedHeader.{SignedHeader}
 use Rattle.rb_import_answers.specs.declared.packets.PacketEvent.{PacketEvent}
 use Rattle.rb_import_answers.specs.declared.packets.PacketKind.{PacketKind}
 use Rattle.rb_import_answers.specs.declared.packets.PacketKind.TheVariants as kinds

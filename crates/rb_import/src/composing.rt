@@ -77,9 +77,7 @@ pub fn compose<'a>(
     ensures big { IfErr result (λ e. IsTooBig e → HoldsOfSeen setup.entry.now signatures answers.entry.now (λ seen. NamesLargest setup.entry.now seen e)) }
 {
     let seen = seen_in(alloc, setup, signatures, answers)?;
-    let Made { script, notices } = made_of(alloc, setup, answers, &seen)?;
-    let text = text_of(alloc, setup, answers, &seen, &script)?;
-    Ok(Composed { text, notices })
+    composed_of(alloc, setup, answers, &seen)
 }
 
 /// The script of what was seen, and its notices.
@@ -104,6 +102,23 @@ fn made_of<'a>(
     }
 }
 
+/// The text of the script of what was seen, and its notices.
+fn composed_of<'a>(
+    alloc: Global,
+    setup: &'a Setup,
+    answers: &'a SavedAnswers,
+    seen: &Seen<'a>,
+) -> Result<Composed<'a>, ImportError<'a>>
+    ensures notices { IfOk result (λ script. AreNoticesOf setup.entry.now answers.entry.now seen.now script.notices) }
+    ensures text { IfOk result (λ script. IsFitting setup.entry.now answers.entry.now seen.now (string_bytes script.text)) }
+    ensures size { IfErr result (IsOfSizeOf setup.entry.now seen.now) }
+    ensures told { IfErr result (IsToldIn setup.entry.now) }
+{
+    let Made { script, notices } = made_of(alloc, setup, answers, seen)?;
+    let text = text_of(alloc, setup, answers, seen, &script)?;
+    Ok(Composed { text, notices })
+}
+
 /// The text of a script of what was seen, which begins with the line on signatures and with who wrote it.
 fn text_of<'a>(
     alloc: Global,
@@ -112,7 +127,7 @@ fn text_of<'a>(
     seen: &Seen<'_>,
     script: &Script,
 ) -> Result<String, ImportError<'a>>
-    requires { IsMadeOf setup.entry.now answers.now seen.now script.now }
+    requires { IsMadeOf setup.now answers.now seen.now script.now }
     ensures text { IfOk result (λ text. IsFitting setup.entry.now answers.now seen.now (string_bytes text)) }
     ensures size { IfErr result (IsOfSizeOf setup.entry.now seen.now) }
     ensures told { IfErr result (IsToldIn setup.entry.now) }

@@ -1,4 +1,4 @@
-use Rattle.std.proofs.Common.{◌≡◌, ◌<◌, ◌++◌, length, take, rules, ap, sym, subst}
+use Rattle.std.proofs.Common.{◌≡◌, ◌<◌, ◌++◌, length, take, rules, subst}
 use Rattle.std.proofs.lemmas.List.{take_all}
 use Rattle.rb_import.specs.Tallies.{IsTally}
 use Rattle.rb_import.proofs.Tallying.{commits_more}
