@@ -83,7 +83,7 @@ def run_program(program, cases, imports=None):
             run = run_watched if case.is_watched else run_alone
             done, error = run(words, case.given, output)
         wrong += not case.is_met_by(done.stdout or b"", error, done.returncode)
-        if imports is not None and case.words[0] == "import":
+        if imports is not None and case.words[:1] == ["import"]:
             imports.append((case, (done.stdout, error, done.returncode)))
     return wrong
 
