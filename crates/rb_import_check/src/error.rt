@@ -136,7 +136,7 @@ impl CheckErrorName {
                 "the verdict on this commit tells of another number of votes than it has; run tools/verify_commits again"
             }
             CheckErrorName::ScriptTooBig =>
-                "the script would have more than 16,777,216 bytes; take fewer answers",
+                "the script would be too big: more than 16,777,216 bytes, or more entries (1018) or work (1032) than plan takes; take fewer answers",
         }
     }
 }
