@@ -15,7 +15,9 @@ def command_line_cases():
         ("no script", ["plan"], b"", b"error: the following required arguments were not provided:\n", 2),
         ("an unknown command", ["plans"], b"", b"error: unrecognized subcommand 'plans'\n", 2),
         ("an unknown option", ["plan", "--fast", "-"], b"", b"error: unexpected argument '--fast' found\n", 2),
-        ("two scripts", ["plan", "-", "-"], b"", b"error: unexpected argument '-' found\n", 2),
+        ("two scripts", ["plan", "-", "-"], b"", b"fault 1002 MissingKey at version\n", 1),
+        ("three scripts", ["plan", "-", "-", "-"], b"", b"error: unexpected argument '-' found\n", 2),
+        ("four files", ["certify", "-", "-", "-", "-"], b"", b"error: unexpected argument '-' found\n", 2),
         ("no thread", ["run", "--workers", "0", "-"], b"", b"error: invalid value '0' for '--workers <K>': 0 is not in 1..=64\n", 2),
         ("65 threads", ["run", "--workers=65", "-"], b"", b"error: invalid value '65' for '--workers <K>': 65 is not in 1..=64\n", 2),
         ("threads that are no number", ["run", "--workers", "two", "-"], b"", b"error: invalid value 'two' for '--workers <K>': invalid digit found in string\n", 2),
@@ -23,6 +25,10 @@ def command_line_cases():
         ("a turn of plan", ["plan", "--turn", "1", "-"], b"", b"error: unexpected argument '--turn' found\n", 2),
         ("threads of plan", ["plan", "--workers", "2", "-"], b"", b"error: unexpected argument '--workers' found\n", 2),
         ("standard input twice", ["certify", "-", "-"], b"", b"error: only one of <SCRIPT> and <CERT> can be standard input\n", 2),
+        ("a setup and a certificate on standard input", ["certify", "-", folder, "-"], b"", b"error: only one of <SCRIPT> and <CERT> can be standard input\n", 2),
+        ("verified votes of a script", ["plan", "--verified", smallest], b"", b"error: the following required arguments were not provided:\n", 2),
+        ("verified votes of a script that is judged", ["certify", "--verified", smallest, "-"], b"", b"error: the following required arguments were not provided:\n", 2),
+        ("all answers of a script", ["health", "--all-or-nothing", smallest], b"", b"error: the following required arguments were not provided:\n", 2),
         ("no certificate", ["certify", smallest], b"", b"error: the following required arguments were not provided:\n", 2),
         ("no certificate behind a script", ["certify", "-"], (EXAMPLES / "smallest.toml").read_bytes(), b"fault 1002 MissingKey at version\n", 1),
         ("three texts", ["certify", "-"], (EXAMPLES / "smallest.toml").read_bytes() + b"---\n---\n---\n", b"fault 1001 NotToml at -\n", 1),
@@ -39,6 +45,7 @@ def command_line_cases():
         yield Case(f"{script.name}, watched", ["plan", str(script)], b"", report, error, 0, is_watched=True)
         yield Case(f"{script.name}, strict and watched", ["run", "--strict", str(script)], b"", report, error, status, is_watched=True)
     yield from message_cases()
+    yield from setup_cases()
     setup, answers, certificate = str(EXAMPLES / "import" / "setup.toml"), str(EXAMPLES / "import" / "answers"), str(EXAMPLES / "smallest.certificate")
     quiet = b'[[turn]]\nfrom = "1970-01-01T00:00:00Z"\nuntil = "1970-01-01T00:00:00Z"\n'
     yield Case("a long report on a full device", ["plan", "-"], (ROWS / "one_step").read_bytes() + quiet * 499, b"", b"device\n", 4, pathlib.Path("/dev/full"), named=(b"\nstandard output: No space left on device ",))
@@ -51,6 +58,21 @@ def command_line_cases():
     for words in (["plan", smallest], ["plan", "--strict", str(lost)], ["plan", "--json", "--strict", str(lost)], ["run", "--workers", "2", smallest], ["plan", "--json", smallest], ["commands", smallest], ["explain", smallest], ["explain", "--json", smallest], ["picture", smallest],
                   ["import", setup, answers], ["certify", smallest, certificate], ["certify", str(ROWS / "cheap_detour"), str(CERTIFICATES / "fewer_updates")], ["--help"]):
         yield Case(f"{words} on a full device", words, b"", b"", b"device\n", 4, pathlib.Path("/dev/full"), named=(b"\nstandard output: No space left on device ",))
+
+
+def setup_cases():
+    """Setups without a folder, and scripts with one, of each command; the script stays a script where it could be a setup, too."""
+    folder = EXAMPLES / "import"
+    setup, answers, script, certificate = (str(file) for file in (folder / "setup.toml", folder / "answers", EXAMPLES / "smallest.toml", EXAMPLES / "smallest.certificate"))
+    lone, other = "it is a setup: give the folder of the answers of nodes behind it, or the script that import makes of both", "it is a script, which has its events: leave the folder out"
+    for words in ["plan"], ["plan", "--json"], ["run"], ["explain"], ["picture"], ["health"], ["commands"], ["certify"]:
+        behind = [certificate] if words == ["certify"] else []
+        yield Case(f"{words} of a setup alone", [*words, setup, *behind], b"", b"", f"error: invalid value '{setup}' for '<SCRIPT>': {lone}\n".encode(), 2)
+        yield Case(f"{words} of a script and a folder", [*words, script, answers, *behind], b"", b"", f"error: invalid value '{script}' for '<SCRIPT>': {other}\n".encode(), 2)
+    yield Case("messages of a setup that isn't one", ["messages", "-", answers, "no"], setups(2)[1].replace("[[client]]", "[[client]]\ncolour = 1", 1).encode(), b"", b"fault 1003 UnknownKey at client[0].colour\n", 1)
+    plain = b"version = 1\n"
+    yield Case("a script of version 1 without events", ["plan", "-"], plain, b"ibcplan 1\nend\n", b"", 0)
+    yield Case("the same as a setup", ["plan", "-", answers], plain, b"", b"fault 1002 MissingKey at turn\n", 1)
 
 
 def message_cases():

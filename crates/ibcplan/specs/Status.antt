@@ -1,8 +1,11 @@
--- What the program's exit status says of the files that it read, and of what it wrote.
+-- What the program's exit status says of what it read, and of what it wrote.
 use Rattle.std.specs.Prelude.{◌≡◌, ◌||◌, ◌&&◌, ◌-◌, ◌^◌, ℕ, Bool, true, false, if◌then◌else◌, List, length, nat_lt, min, Option, is_some}
 use Rattle.std.specs.List.{list_any, sum_by}
+use Rattle.std.specs.declared.alloc.Global.{Global}
+use Rattle.rb_script_config.specs.Paths.{path_ids}
+use Rattle.rb_script_types.specs.Script.{Script}
 use Rattle.rb_super_turn.specs.Report.{TurnReport, Report}
-use Rattle.rb_text.specs.Headline.{WritesReport}
+use Rattle.rb_text.specs.Reports.{WritesReportOf}
 use Rattle.rb_text.specs.Verdicts.{WritesVerdict, IsCertified}
 
 -- whether a turn's report tells of something refused: its window, that of a host, an event or a settlement
@@ -17,17 +20,18 @@ plan_status is_strict report = if is_strict && list_any has_refusal report then 
 abbrev pub refused_events : Report → ℕ
 refused_events report = sum_by (λ t. length t.refused) report
 
--- the bytes hold a script, and the writer took the text of its report; the status and the number of refused events are that report's
-pub record IsPlanWritten (is_strict : Bool) (script : List ℕ) (old new : Option (List ℕ)) (status count : ℕ) : Type 0 where
-  pub writes : WritesReport script old new
-  pub ends : status ≡ plan_status is_strict writes.report
-  pub counts : count ≡ min (refused_events writes.report) (2 ^ 64 - 1)
+-- the writer took the text of the script's report; the status and the number of refused events are that report's
+pub record IsPlanWritten (is_strict : Bool) (script : Script Global) (old new : Option (List ℕ)) (status count : ℕ) : Type 0 where
+  pub report : Report
+  pub writes : WritesReportOf script old new script.config.chains (path_ids script.config.paths) report
+  pub ends : status ≡ plan_status is_strict report
+  pub counts : count ≡ min (refused_events report) (2 ^ 64 - 1)
 
 -- 0: the writer took the line `yes`, the certificate's labelling is sound and its answer right
-abbrev pub IsConfirmed : List ℕ → List ℕ → Option (List ℕ) → Option (List ℕ) → ℕ → Type 0
+abbrev pub IsConfirmed : Script Global → List ℕ → Option (List ℕ) → Option (List ℕ) → ℕ → Type 0
 IsConfirmed script certificate old new status =
     (status ≡ 0) × WritesVerdict script certificate true old new × IsCertified script certificate
 
 -- 3: the verdict is `no`, and the writer took its line
-abbrev pub IsDenied : List ℕ → List ℕ → Option (List ℕ) → Option (List ℕ) → ℕ → Type 0
+abbrev pub IsDenied : Script Global → List ℕ → Option (List ℕ) → Option (List ℕ) → ℕ → Type 0
 IsDenied script certificate old new status = (status ≡ 3) × WritesVerdict script certificate false old new

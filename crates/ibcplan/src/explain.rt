@@ -3,12 +3,11 @@ ghost use Rattle.rb_script_types.specs.Script.{script_view, IsReadScript};
 
 use crate::forms::{no_such_turn, number_of};
 use crate::searching::can_search;
-use ibcplan_cli::{Input, ProgramError, Shown, WantedTurns};
+use ibcplan_cli::{ProgramError, Shown, WantedTurns};
 use rb_base::{Gate, Sink};
 use rb_explain::{Detail, Listener, TurnExplanation, Wanted, explain_script};
 use rb_explain_picture::picture_of;
 use rb_explain_text::{put, put_json, put_json_beginning, put_json_end, put_text};
-use rb_script_read::read_script;
 use rb_script_types::{Config, Script};
 use std::alloc::{AllocError, Global};
 use std::thread::Threads;
@@ -57,7 +56,7 @@ fn place_of(config: &Config, id: &str) -> Option<usize> {
 fn client_of<'a>(
     asked: AskedExplanation<'a>,
     config: &Config,
-    input: &Input<'a>,
+    file: Shown<'a>,
 ) -> Result<Option<usize>, ProgramError<'a>> {
     let Some(id) = asked.client else {
         return Ok(None);
@@ -66,7 +65,7 @@ fn client_of<'a>(
         Some(client) => Ok(Some(client)),
         None => Err(ProgramError::NoSuchClient {
             client: Shown { name: id },
-            file: input.name(),
+            file,
         }),
     }
 }
@@ -77,7 +76,7 @@ fn wanted_of<'a>(
     alloc: Global,
     asked: AskedExplanation<'a>,
     script: &Script,
-    input: &Input<'a>,
+    file: Shown<'a>,
 ) -> Result<Wanted, ProgramError<'a>> {
     let count = script.turns.len();
     let turns = match asked.turns {
@@ -86,10 +85,10 @@ fn wanted_of<'a>(
     };
     let turn = number_of(turns, count);
     match turn {
-        Some(turn) if turn > count as u64 => return Err(no_such_turn(turn, input, count)),
+        Some(turn) if turn > count as u64 => return Err(no_such_turn(turn, file, count)),
         _ => {}
     }
-    let client = client_of(asked, &script.config, input)?;
+    let client = client_of(asked, &script.config, file)?;
     let Ok(has_fewest) = can_search(alloc, script, turn.is_some(), client) else {
         return Err(ProgramError::NoMemory);
     };
@@ -104,21 +103,20 @@ fn wanted_of<'a>(
     })
 }
 
-/// Writes the explanation of the script that a file holds, each turn once it is explained; the plans are made through a gate. Nothing is
-/// written where the file is refused, or hasn't what is asked for.
+/// Writes the explanation of the script of a file, each turn once it is explained; the plans are made through a gate. Nothing is
+/// written where it hasn't what is asked for.
 pub fn explain<'a, R: Threads + Sync, G: Gate + Sync + Drop, W: Sink>(
     rt: &R,
     alloc: Global,
-    input: &Input<'a>,
+    script: Script,
+    file: Shown<'a>,
     asked: AskedExplanation<'a>,
     gate: G,
     output: &mut W,
-) -> Result<(), ProgramError<'a>> {
-    let script = match read_script(alloc, input.bytes()) {
-        Ok(script) => script,
-        Err(error) => return Err(ProgramError::of_run(error, input)),
-    };
-    let wanted = wanted_of(alloc, asked, &script, input)?;
+) -> Result<(), ProgramError<'a>>
+    requires { IsReadScript (script_view script) }
+{
+    let wanted = wanted_of(alloc, asked, &script, file)?;
     match explain_by(rt, alloc, script, &wanted, asked.form, &gate, output) {
         Ok(true) => Ok(()),
         Ok(false) => Err(ProgramError::untaken()),

@@ -1,12 +1,12 @@
 //! The report of a script in other forms than its own: JSON, and the commands that submit its updates.
+ghost use Rattle.std.specs.Prelude.{IfOk, string_bytes};
 ghost use Rattle.rb_script_types.specs.Script.{script_view, IsReadScript};
+ghost use Rattle.ibcplan.specs.Forms.{IsJsonOf};
 
 use crate::reporting::plan_status;
-use ibcplan_cli::{Input, ProgramError, Turns, WantedTurns, WorkerCount};
+use ibcplan_cli::{ProgramError, Shown, Turns, WantedTurns, WorkerCount};
 use rb_base::Gate;
 use rb_health::{healths_of, with_health};
-use rb_script_read::{read_script, read_script_by};
-use rb_script_toml::RunError;
 use rb_script_types::Script;
 use rb_super::run_to_end;
 use rb_text::{report_of, shares_of};
@@ -22,31 +22,19 @@ pub struct JsonText {
     pub status: u8,
 }
 
-/// The report of the script that a file holds, as JSON, with when its clients expire; its step tables are made by so many workers
-/// where that saves time, its plans by the calling thread, through a gate.
-pub fn json_of_script<'a, R: Threads + Sync, G: Gate + Sync + Drop>(
+/// The report of a script as JSON, with when its clients expire; its step tables are made by so many workers where that saves time,
+/// its plans by the calling thread, through a gate.
+pub fn json_of_script<R: Threads + Sync, G: Gate + Sync>(
     rt: &R,
     alloc: Global,
-    input: &Input<'a>,
-    workers: WorkerCount,
-    is_strict: bool,
-    gate: G,
-) -> Result<JsonText, ProgramError<'a>> {
-    match json_of_bytes(rt, alloc, input.bytes(), workers, is_strict, &gate) {
-        Ok(json) => Ok(json),
-        Err(error) => Err(ProgramError::of_run(error, input)),
-    }
-}
-
-fn json_of_bytes<R: Threads + Sync, G: Gate + Sync>(
-    rt: &R,
-    alloc: Global,
-    bytes: &[u8],
+    script: Script,
     workers: WorkerCount,
     is_strict: bool,
     gate: &G,
-) -> Result<JsonText, RunError> {
-    let script = read_script_by(rt, alloc, bytes, workers.count())?;
+) -> Result<JsonText, AllocError>
+    requires { IsReadScript (script_view script) }
+    ensures { IfOk result (λ json. IsJsonOf is_strict (script_view script) (string_bytes json.text) json.status) }
+{
     let threads = shares_of(alloc, &script)?.table_threads(workers.count());
     let (report, relayer) = run_to_end(rt, alloc, script, threads, gate)?;
     let clients = healths_of(alloc, &relayer)?;
@@ -57,8 +45,8 @@ fn json_of_bytes<R: Threads + Sync, G: Gate + Sync>(
     })
 }
 
-/// The commands for the plans of the script that a file holds, of the turns that are wanted: one that is
-/// numbered has to be there; the plans are made through a gate.
+/// The commands for the plans of the script of a file, of the turns that are wanted: one that is numbered has to be there; the
+/// plans are made through a gate.
 pub fn commands_of_script<
     'a,
     R: Threads + Wait + Copy + Send + Sync + 'static,
@@ -66,17 +54,16 @@ pub fn commands_of_script<
 >(
     rt: &R,
     alloc: Global,
-    input: &Input<'a>,
+    script: Script,
+    file: Shown<'a>,
     turns: WantedTurns,
     gate: G,
-) -> Result<String, ProgramError<'a>> {
-    let script = match read_script(alloc, input.bytes()) {
-        Ok(script) => script,
-        Err(error) => return Err(ProgramError::of_run(error, input)),
-    };
+) -> Result<String, ProgramError<'a>>
+    requires { IsReadScript (script_view script) }
+{
     let count = script.turns.len();
     match number_of(turns, count) {
-        Some(turn) if turn > count as u64 => Err(no_such_turn(turn, input, count)),
+        Some(turn) if turn > count as u64 => Err(no_such_turn(turn, file, count)),
         turn => match commands_by(rt, alloc, script, turn, gate) {
             Ok(text) => Ok(text),
             Err(_) => Err(ProgramError::NoMemory),
@@ -94,8 +81,7 @@ pub(crate) fn number_of(turns: WantedTurns, count: usize) -> Option<u64> {
 }
 
 /// What is wrong where the script of a file, of so many turns, doesn't have a turn.
-pub(crate) fn no_such_turn<'a>(turn: u64, input: &Input<'a>, count: usize) -> ProgramError<'a> {
-    let file = input.name();
+pub(crate) fn no_such_turn<'a>(turn: u64, file: Shown<'a>, count: usize) -> ProgramError<'a> {
     ProgramError::NoSuchTurn {
         turn,
         turns: Turns { file, count },

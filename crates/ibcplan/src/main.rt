@@ -9,6 +9,7 @@ mod explained;
 mod first_text;
 mod following;
 mod forms;
+mod given;
 mod health;
 mod host;
 mod journal;

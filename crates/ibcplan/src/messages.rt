@@ -1,17 +1,16 @@
 //! The client messages and the transactions of a script's last turn, or of a setup's, made of the answers of nodes.
+ghost use Rattle.std.specs.Prelude.{IfOk};
 ghost use Rattle.rb_script_types.specs.Script.{script_view, IsReadScript};
+ghost use Rattle.ibcplan.specs.Sendings.{IsSendingOf};
 
+use crate::given::{GivenScript, script_of_setup, script_of_text};
 use crate::host::Host;
-use ibcplan_cli::{Input, ProgramError, status};
-use ibcplan_folders::{
-    Answers, ImportedText, PacketTexts, files_of, imported, lines_of, packet_texts, read_answers,
-    write_files,
-};
+use ibcplan_cli::{Import, Input, ProgramError, status};
+use ibcplan_folders::{PacketTexts, files_of, lines_of, packet_texts, read_answers, write_files};
 use rb_base::Gate;
 use rb_core::Core;
 use rb_import_setup::{Sender, is_setup, read_setup};
 use rb_messages::PlannedUpdate;
-use rb_script_read::read_script;
 use rb_script_types::Script;
 use rb_sending::{
     PlannedBatch, TransactionFile, planned_batches, planned_updates, shell_of, transaction_files,
@@ -20,13 +19,6 @@ use rb_sending::{
 use rb_super::run_to_end;
 use std::alloc::{AllocError, Global};
 use std::thread::Threads;
-
-/// The folder of the answers, with how a setup's are imported, and the folder that is made.
-#[derive(Clone, Copy)]
-pub struct Folders<'f> {
-    pub answers: Answers<'f>,
-    pub output: &'f str,
-}
 
 /// The lines that tell of messages, or of the proofs that are asked for; those that tell what is left out; and the status
 /// to end with.
@@ -37,11 +29,11 @@ pub struct MessageLines {
     pub status: u8,
 }
 
-/// What is given: the text of a script, and who sends transactions to each of its chains.
+/// The folder of the answers, and the folder that is made.
 #[derive(Clone, Copy)]
-struct Given<'g> {
-    script: &'g [u8],
-    senders: &'g [Option<Sender>],
+struct Folders<'f> {
+    answers: &'f str,
+    output: &'f str,
 }
 
 /// A relayer after a script's last turn, and what this turn sends.
@@ -52,60 +44,66 @@ struct Sending {
     batches: Vec<PlannedBatch>,
 }
 
-/// Writes the messages of the script or of the setup that a file holds into a folder, and answers the lines that tell of
-/// them. Nothing is written where one of an update isn't made, or where a proof is to be asked for.
+/// Writes the messages of the script or of the setup in a file into a folder, and answers the lines that tell of them.
+/// Nothing is written where one of an update isn't made, or where a proof is to be asked for.
 pub fn messages_of<'a, R: Host, G: Gate + Sync>(
     rt: &R,
-    input: &Input<'a>,
-    folders: Folders<'_>,
+    import: Import<'a>,
+    output: &str,
     gate: &G,
 ) -> Result<MessageLines, ProgramError<'a>> {
+    let input = Input::read(rt, import.setup)?;
+    let folders = Folders {
+        answers: import.folder,
+        output,
+    };
     match is_setup(rt.alloc(), input.bytes()) {
-        Ok(true) => messages_of_setup(rt, input, folders, gate),
+        Ok(true) => {
+            let given = script_of_setup(rt, &input, import)?;
+            let senders = senders_of(rt.alloc(), &input)?;
+            messages_by(rt, given, senders.as_slice(), folders, gate)
+        }
         Ok(false) => {
-            let given = Given {
-                script: input.bytes(),
-                senders: &[],
-            };
-            messages_by(rt, input, given, folders, gate)
+            let given = script_of_text(rt, rt.alloc(), &input, 0)?;
+            messages_by(rt, given, &[], folders, gate)
         }
         Err(_) => Err(ProgramError::NoMemory),
     }
 }
 
-/// The same of a setup: of the script that `import` makes of it and of the answers.
-fn messages_of_setup<'a, R: Host, G: Gate + Sync>(
-    rt: &R,
+/// Who sends transactions to each of a setup's chains.
+fn senders_of<'a>(
+    alloc: Global,
     input: &Input<'a>,
+) -> Result<Vec<Option<Sender>>, ProgramError<'a>> {
+    match read_setup(alloc, input.bytes()) {
+        Ok(setup) => Ok(setup.senders),
+        Err(error) => Err(ProgramError::of_setup(error, input)),
+    }
+}
+
+/// The messages of a script, told behind the notices of the answers that it was made of.
+fn messages_by<'a, R: Host, G: Gate + Sync>(
+    rt: &R,
+    given: GivenScript<'a>,
+    senders: &[Option<Sender>],
     folders: Folders<'_>,
     gate: &G,
-) -> Result<MessageLines, ProgramError<'a>> {
-    let setup = match read_setup(rt.alloc(), input.bytes()) {
-        Ok(setup) => setup,
-        Err(error) => return Err(ProgramError::of_setup(error, input)),
-    };
-    let ImportedText {
+) -> Result<MessageLines, ProgramError<'a>>
+    requires { IsReadScript (script_view given.script) }
+{
+    let GivenScript {
         script,
         notices,
         status,
-    } = imported(rt, input, folders.answers)?;
-    let given = Given {
-        script: script.as_bytes(),
-        senders: setup.senders.as_slice(),
+        ..
+    } = given;
+    let Ok(sending) = sending_of(rt, rt.alloc(), script, gate) else {
+        return Err(ProgramError::NoMemory);
     };
-    let made = messages_by(rt, input, given, folders, gate)?;
-    with_notices(rt.alloc(), notices.as_str(), status, made)
-}
-
-/// The lines behind the notices of an import, and the status of the import where nothing else is told.
-fn with_notices<'a>(
-    alloc: Global,
-    notices: &str,
-    status: u8,
-    made: MessageLines,
-) -> Result<MessageLines, ProgramError<'a>> {
+    let made = proved(rt, &sending, senders, folders)?;
     let told = made.notices.as_str();
-    match format!(in alloc; "{notices}{told}") {
+    match format!(in rt.alloc(); "{notices}{told}") {
         Ok(notices) => Ok(MessageLines {
             lines: made.lines,
             notices,
@@ -115,24 +113,7 @@ fn with_notices<'a>(
     }
 }
 
-/// The same of what a file gives.
-fn messages_by<'a, R: Host, G: Gate + Sync>(
-    rt: &R,
-    input: &Input<'a>,
-    given: Given<'_>,
-    folders: Folders<'_>,
-    gate: &G,
-) -> Result<MessageLines, ProgramError<'a>> {
-    let script = match read_script(rt.alloc(), given.script) {
-        Ok(script) => script,
-        Err(error) => return Err(ProgramError::of_run(error, input)),
-    };
-    match sending_of(rt, rt.alloc(), script, gate) {
-        Ok(sending) => proved(rt, &sending, given.senders, folders),
-        Err(_) => Err(ProgramError::NoMemory),
-    }
-}
-
+/// Runs a script: the relayer after its last turn, and what that turn sends.
 fn sending_of<R: Threads + Sync, G: Gate + Sync>(
     rt: &R,
     alloc: Global,
@@ -140,6 +121,7 @@ fn sending_of<R: Threads + Sync, G: Gate + Sync>(
     gate: &G,
 ) -> Result<Sending, AllocError>
     requires { IsReadScript (script_view script) }
+    ensures { IfOk result (λ sending. IsSendingOf (script_view script) sending.relayer sending.updates.items sending.batches.items) }
 {
     let (report, relayer) = run_to_end(rt, alloc, script, 0, gate)?;
     let updates = planned_updates(alloc, &report, &relayer)?;
@@ -164,7 +146,7 @@ fn proved<'a, R: Host>(
         texts,
         wanted,
         left_out,
-    } = packet_texts(rt, folders.answers.folder, config, senders, batches)?;
+    } = packet_texts(rt, folders.answers, config, senders, batches)?;
     if !wanted.is_empty() {
         return Ok(MessageLines {
             lines: wanted,
@@ -196,7 +178,7 @@ fn written<'a, R: Host>(
     let chains = sending.relayer.config().chains.as_slice();
     let updates = sending.updates.as_slice();
     let batches = sending.batches.as_slice();
-    let answers = read_answers(rt, folders.answers.folder, chains, updates)?;
+    let answers = read_answers(rt, folders.answers, chains, updates)?;
     let files = files_of(rt.alloc(), chains, answers.as_slice(), updates)?;
     let made = files.as_slice();
     let Ok(transactions) = transaction_files(rt.alloc(), chains, senders, batches, made, packets)

@@ -1,7 +1,7 @@
 //! The tasks done: files are read, results go to standard output, failures and notices to standard error.
-ghost use Rattle.std.specs.Prelude.{◌≡◌, ◌⊎◌, false, Err, IfOk, IfErr, IsErr, OnErr, IfSome, MatchResult};
-ghost use Rattle.rb_text.specs.Scripts.{script_of};
-ghost use Rattle.rb_text.specs.Headline.{BeginsReport};
+ghost use Rattle.std.specs.Prelude.{◌≡◌, ◌⊎◌, false, IfOk, IfErr, OnErr, IfSome, MatchResult};
+ghost use Rattle.rb_script_types.specs.Script.{IsReadScript, script_view};
+ghost use Rattle.rb_text.specs.Reports.{BeginsReportOf};
 ghost use Rattle.rb_text.specs.Verdicts.{IsFaultFor, BeginsVerdict};
 ghost use Rattle.ibcplan_cli.specs.Failures.{failure_status, told_fault, is_unwritten};
 ghost use Rattle.ibcplan.specs.Status.{IsPlanWritten, IsConfirmed, IsDenied};
@@ -11,24 +11,25 @@ use crate::explained::Explained;
 use crate::first_text::{FirstText, first_text, last_text};
 use crate::following::follow;
 use crate::forms::{commands_of_script, json_of_script};
+use crate::given::{GivenScript, answers_of, given_script, script_of_text};
 use crate::health::health_of_script;
 use crate::host::Host;
 use crate::journal::{OpenedJournal, open_journal};
-use crate::messages::{Folders, MessageLines, messages_of};
+use crate::messages::{MessageLines, messages_of};
 use crate::progress::Progress;
 use crate::reporting::{plan_status, refused_events};
 use crate::verdict::verdict_json;
 use ibcplan_cli::{
-    Following, Input, ProgramError, Request, STANDARD_INPUT, Wanted, WantedTurns, WorkerCount,
-    setup_for, status,
+    Following, Given, Import, Input, ProgramError, Request, STANDARD_INPUT, Shown, Wanted,
+    WantedTurns, WorkerCount, setup_for, status,
 };
-use ibcplan_folders::{Answers, ImportedText, WantedText, imported, wanted};
+use ibcplan_folders::{ImportedText, WantedText, imported, wanted};
 use rb_base::{Counted, Gate, Sink, write_whole};
 use rb_follow::{Form as AnswerForm, NoJournal, greeting, json_of_fault};
 use rb_hermes::NamedClient;
-use rb_script_types::Version;
-use rb_text::{certify_texts, report_over};
-use rb_text_report::Source;
+use rb_script_toml::RunError;
+use rb_script_types::{Script, Version};
+use rb_text::{certify_script, write_report_of};
 use std::alloc::Global;
 use std::io;
 use std::io::{Cursor, Printer, Read, Write};
@@ -134,6 +135,19 @@ impl Done {
             notices: None,
         }
     }
+
+    /// The same of a script of which this is told; the status is its own where it isn't that all is there.
+    fn of_given(self, notices: String, status: u8) -> Done {
+        Done {
+            status: if status == status::DONE {
+                self.status
+            } else {
+                status
+            },
+            refused_events: self.refused_events,
+            notices: Some(notices),
+        }
+    }
 }
 
 /// Reads the files of a request and does it.
@@ -146,7 +160,11 @@ fn done_of<'a, R: Host, W: Sink>(
     requires { W.is_broken output.old ≡ false }
 {
     match request {
-        Request::Script { script, wanted } => script_file(rt, script, wanted, is_watched, output),
+        Request::Script { given, wanted } => write_about(rt, given, wanted, is_watched, output),
+        Request::Messages {
+            import,
+            output: made,
+        } => write_messages(rt, import, made, is_watched, output),
         Request::Follow { setup, following } => {
             follow_input(rt, setup, following, is_watched, output)
         }
@@ -155,55 +173,51 @@ fn done_of<'a, R: Host, W: Sink>(
             journal,
             following,
         } => follow_journal(rt, setup, journal, following, is_watched, output),
-        Request::Import {
-            setup,
-            folder,
-            is_all_or_nothing,
-            is_verified,
-        } => {
-            let answers = Answers {
-                folder,
-                is_all_or_nothing,
-                is_verified,
-            };
-            import_files(rt, setup, answers, output)
-        }
+        Request::Import(import) => import_files(rt, import, output),
         Request::Setup { config, clients } => setup_file(rt, config, clients.as_slice(), output),
         Request::Want { setup, folder } => want_files(rt, setup, folder, output),
         Request::Certify {
-            script,
+            given,
             certificate,
             is_json,
-        } => certify_files(rt, script, certificate, is_json, output),
+        } => certify_files(rt, given, certificate, is_json, output),
         Request::CertifyInput { is_json } => certify_input(rt, is_json, output),
         Request::Version => write_greeting(output),
     }
 }
 
-/// Reads a script, and writes what is wanted about it.
-fn script_file<'a, R: Host, W: Sink>(
+/// Writes what is wanted about the script that is given.
+fn write_about<'a, R: Host, W: Sink>(
     rt: &R,
-    script: &'a str,
+    given: Given<'a>,
     wanted: Wanted<'a>,
     is_watched: bool,
     output: &mut W,
 ) -> Result<Done, ProgramError<'a>>
     requires { W.is_broken output.old ≡ false }
 {
-    let script = Input::read(rt, script)?;
+    let GivenScript {
+        script,
+        file,
+        notices,
+        status,
+    } = given_script(rt, given, wanted.threads())?;
     let progress = Progress::new(*rt, is_watched);
-    write_wanted(rt, &script, wanted, progress, output)
+    let done = write_wanted(rt, script, file, wanted, progress, output)?;
+    Ok(done.of_given(notices, status))
 }
 
-/// Writes what is wanted about a script.
+/// Writes what is wanted about the script of a file.
 fn write_wanted<'a, R: Host, W: Sink>(
     rt: &R,
-    script: &Input<'a>,
+    script: Script,
+    file: Shown<'a>,
     wanted: Wanted<'a>,
     progress: Progress<R>,
     output: &mut W,
 ) -> Result<Done, ProgramError<'a>>
-    requires { W.is_broken output.old ≡ false }
+    requires script { IsReadScript (script_view script) }
+    requires works { W.is_broken output.old ≡ false }
 {
     match wanted {
         Wanted::Report { workers, is_strict } => plan(
@@ -218,7 +232,7 @@ fn write_wanted<'a, R: Host, W: Sink>(
         Wanted::Json { workers, is_strict } => {
             write_json(rt, script, workers, is_strict, progress, output)
         }
-        Wanted::Commands { turns } => write_commands(rt, script, turns, progress, output),
+        Wanted::Commands { turns } => write_commands(rt, script, file, turns, progress, output),
         Wanted::Explanation {
             turns,
             client,
@@ -230,7 +244,7 @@ fn write_wanted<'a, R: Host, W: Sink>(
                 client,
                 form: text_form(is_whole, is_json),
             };
-            write_explanation(rt, script, asked, progress, output)
+            write_explanation(rt, script, file, asked, progress, output)
         }
         Wanted::Picture { turns, client } => {
             let asked = AskedExplanation {
@@ -238,53 +252,42 @@ fn write_wanted<'a, R: Host, W: Sink>(
                 client,
                 form: Form::Picture,
             };
-            write_explanation(rt, script, asked, progress, output)
+            write_explanation(rt, script, file, asked, progress, output)
         }
         Wanted::Health { are_metrics } => write_health(rt, script, are_metrics, progress, output),
-        Wanted::Messages {
-            folder,
-            output: made,
-            is_verified,
-        } => {
-            let answers = Answers {
-                folder,
-                is_all_or_nothing: false,
-                is_verified,
-            };
-            let folders = Folders {
-                answers,
-                output: made,
-            };
-            write_messages(rt, script, folders, progress, output)
-        }
     }
 }
 
 fn write_json<'a, R: Host, W: Sink>(
     rt: &R,
-    script: &Input<'a>,
+    script: Script,
     workers: WorkerCount,
     is_strict: bool,
     progress: Progress<R>,
     output: &mut W,
 ) -> Result<Done, ProgramError<'a>>
-    requires { W.is_broken output.old ≡ false }
+    requires script { IsReadScript (script_view script) }
+    requires works { W.is_broken output.old ≡ false }
 {
-    let json = json_of_script(rt, rt.alloc(), script, workers, is_strict, progress)?;
+    let Ok(json) = json_of_script(rt, rt.alloc(), script, workers, is_strict, &progress) else {
+        return Err(ProgramError::NoMemory);
+    };
     write(json.text.as_str(), output)?;
     Ok(Done::quietly(json.status))
 }
 
 fn write_commands<'a, R: Host, W: Sink>(
     rt: &R,
-    script: &Input<'a>,
+    script: Script,
+    file: Shown<'a>,
     turns: WantedTurns,
     progress: Progress<R>,
     output: &mut W,
 ) -> Result<Done, ProgramError<'a>>
-    requires { W.is_broken output.old ≡ false }
+    requires script { IsReadScript (script_view script) }
+    requires works { W.is_broken output.old ≡ false }
 {
-    let text = commands_of_script(rt, rt.alloc(), script, turns, progress)?;
+    let text = commands_of_script(rt, rt.alloc(), script, file, turns, progress)?;
     write(text.as_str(), output)?;
     Ok(Done::quietly(status::DONE))
 }
@@ -299,45 +302,51 @@ fn text_form(is_whole: bool, is_json: bool) -> Form {
 
 fn write_explanation<'a, R: Host, W: Sink>(
     rt: &R,
-    script: &Input<'a>,
+    script: Script,
+    file: Shown<'a>,
     asked: AskedExplanation<'a>,
     progress: Progress<R>,
     output: &mut W,
 ) -> Result<Done, ProgramError<'a>>
-    requires { W.is_broken output.old ≡ false }
+    requires script { IsReadScript (script_view script) }
+    requires works { W.is_broken output.old ≡ false }
 {
-    explain(rt, rt.alloc(), script, asked, progress, output)?;
+    explain(rt, rt.alloc(), script, file, asked, progress, output)?;
     Ok(Done::quietly(status::DONE))
 }
 
 fn write_health<'a, R: Host, W: Sink>(
     rt: &R,
-    script: &Input<'a>,
+    script: Script,
     are_metrics: bool,
     progress: Progress<R>,
     output: &mut W,
 ) -> Result<Done, ProgramError<'a>>
-    requires { W.is_broken output.old ≡ false }
+    requires script { IsReadScript (script_view script) }
+    requires works { W.is_broken output.old ≡ false }
 {
-    let text = health_of_script(rt, rt.alloc(), script, are_metrics, &progress)?;
+    let Ok(text) = health_of_script(rt, rt.alloc(), script, are_metrics, &progress) else {
+        return Err(ProgramError::NoMemory);
+    };
     write(text.as_str(), output)?;
     Ok(Done::quietly(status::DONE))
 }
 
 fn write_messages<'a, R: Host, W: Sink>(
     rt: &R,
-    script: &Input<'a>,
-    folders: Folders<'_>,
-    progress: Progress<R>,
+    import: Import<'a>,
+    made: &str,
+    is_watched: bool,
     output: &mut W,
 ) -> Result<Done, ProgramError<'a>>
     requires { W.is_broken output.old ≡ false }
 {
+    let progress = Progress::new(*rt, is_watched);
     let MessageLines {
         lines,
         notices,
         status,
-    } = messages_of(rt, script, folders, &progress)?;
+    } = messages_of(rt, import, made, &progress)?;
     write(lines.as_str(), output)?;
     Ok(Done {
         status,
@@ -348,18 +357,17 @@ fn write_messages<'a, R: Host, W: Sink>(
 
 fn import_files<'a, R: Host, W: Sink>(
     rt: &R,
-    setup: &'a str,
-    answers: Answers<'_>,
+    import: Import<'a>,
     output: &mut W,
 ) -> Result<Done, ProgramError<'a>>
     requires { W.is_broken output.old ≡ false }
 {
-    let setup = Input::read(rt, setup)?;
+    let setup = Input::read(rt, import.setup)?;
     let ImportedText {
         script,
         notices,
         status,
-    } = imported(rt, &setup, answers)?;
+    } = imported(rt, &setup, answers_of(import))?;
     write(script.as_str(), output)?;
     Ok(Done {
         status,
@@ -479,16 +487,16 @@ fn answer_form(following: Following) -> AnswerForm {
 
 fn certify_files<'a, R: Host, W: Sink>(
     rt: &R,
-    script: &'a str,
+    given: Given<'a>,
     certificate: &'a str,
     is_json: bool,
     output: &mut W,
 ) -> Result<Done, ProgramError<'a>>
     requires { W.is_broken output.old ≡ false }
 {
-    let script = Input::read(rt, script)?;
+    let given = given_script(rt, given, 0)?;
     let certificate = Input::read(rt, certificate)?;
-    write_verdict(rt, &script, &certificate, is_json, output)
+    write_verdict(rt, given, &certificate, is_json, output)
 }
 
 fn certify_input<'a, R: Host, W: Sink>(
@@ -500,37 +508,44 @@ fn certify_input<'a, R: Host, W: Sink>(
 {
     let FirstText { text: script, rest } = first_text(rt, STANDARD_INPUT)?;
     let certificate = last_text(rt, rest)?;
-    write_verdict(rt, &script, &certificate, is_json, output)
+    let given = script_of_text(rt, rt.alloc(), &script, 0)?;
+    write_verdict(rt, given, &certificate, is_json, output)
 }
 
 /// Writes the verdict on a certificate for a script, as a line or as JSON.
 fn write_verdict<'a, R: Host, W: Sink>(
     rt: &R,
-    script: &Input<'a>,
+    given: GivenScript<'a>,
     certificate: &Input<'a>,
     is_json: bool,
     output: &mut W,
 ) -> Result<Done, ProgramError<'a>>
-    requires { W.is_broken output.old ≡ false }
+    requires script { IsReadScript (script_view given.script) }
+    requires works { W.is_broken output.old ≡ false }
 {
     let alloc = rt.alloc();
+    let GivenScript {
+        script,
+        notices,
+        status,
+        ..
+    } = given;
     if !is_json {
-        let status = certify(rt, alloc, script, certificate, output)?;
-        return Ok(Done::quietly(status));
+        let verdict = certify(rt, alloc, script, certificate, output)?;
+        return Ok(Done::quietly(verdict).of_given(notices, status));
     }
     let mut line = Counted::new(Vec::new(alloc));
-    let status = certify(rt, alloc, script, certificate, &mut line)?;
+    let verdict = certify(rt, alloc, script, certificate, &mut line)?;
     let line = line.into_inner();
     match verdict_json(alloc, line.as_slice()) {
         Ok(json) => write(json.as_str(), output)?,
         Err(_) => return Err(ProgramError::NoMemory),
     }
-    Ok(Done::quietly(status))
+    Ok(Done::quietly(verdict).of_given(notices, status))
 }
 
-/// Writes the report of the script that a file holds, by so many workers, through a gate; of a strict
-/// plan the status also tells whether something in the report is refused. Nothing is written where the
-/// file is refused, and a beginning of the report, or nothing, where it fails otherwise.
+/// Writes the report of a script, by so many workers, through a gate; of a strict plan the status also tells
+/// whether something in the report is refused. A beginning of the report, or nothing, is written where it fails.
 fn plan<
     'a,
     R: Threads + Wait + Copy + Send + Sync + 'static,
@@ -539,31 +554,30 @@ fn plan<
 >(
     rt: &R,
     alloc: Global,
-    script: &Input<'a>,
+    script: Script,
     workers: WorkerCount,
     is_strict: bool,
     gate: G,
     output: &mut W,
 ) -> Result<Done, ProgramError<'a>>
-    requires { W.is_broken output.old ≡ false }
-    ensures done { IfOk result (λ done. IsPlanWritten is_strict script.now (W.taken output.old) (W.taken output.new) done.status done.refused_events) }
-    ensures refused { IfErr result (λ failure. failure_status failure ≡ 1 → IsErr (script_of script.now)) }
-    ensures fault { IfErr result (λ failure. IfSome (told_fault failure) (λ fault. script_of script.now ≡ Err fault)) }
-    ensures nothing_written { IfErr result (λ failure. failure_status failure ≡ 1 → output.new ≡ output.old) }
+    requires script { IsReadScript (script_view script) }
+    requires works { W.is_broken output.old ≡ false }
+    ensures done { IfOk result (λ done. IsPlanWritten is_strict (script_view script) (W.taken output.old) (W.taken output.new) done.status done.refused_events) }
+    ensures failed { IfErr result (λ failure. failure_status failure ≡ 4) }
     ensures device { MatchResult result (λ _. W.is_broken output.new ≡ false) (λ failure. W.is_broken output.new ≡ is_unwritten failure) }
-    ensures begun { OnErr result ((output.new ≡ output.old) ⊎ BeginsReport script.now (W.taken output.old) (W.taken output.new)) }
+    ensures begun { OnErr result ((output.new ≡ output.old) ⊎ BeginsReportOf (script_view script) (W.taken output.old) (W.taken output.new)) }
 {
     let Ok(gate) = Arc::new(alloc, gate) else {
         return Err(ProgramError::NoMemory);
     };
-    let workers = workers.count();
-    match report_over(rt, alloc, script.bytes(), output, workers, &gate) {
+    match write_report_of(rt, alloc, script, output, workers.count(), &gate) {
         Ok(report) => Ok(Done {
             status: plan_status(is_strict, &report),
             refused_events: refused_events(&report),
             notices: None,
         }),
-        Err(error) => Err(ProgramError::of_run(error, script)),
+        Err(RunError::Device) => Err(ProgramError::untaken()),
+        Err(_) => Err(ProgramError::NoMemory), // a script that was read has no fault
     }
 }
 
@@ -587,34 +601,29 @@ fn write<'a, W: Sink>(text: &str, output: &mut W) -> Result<(), ProgramError<'a>
     }
 }
 
-/// Writes the verdict on the certificate that a file holds. Nothing is written where a file is refused,
-/// and a beginning of the verdict's line, or nothing, where it fails otherwise.
+/// Writes the verdict on the certificate that a file holds. Nothing is written where the file is refused, and a
+/// beginning of the verdict's line, or nothing, where it fails otherwise.
 fn certify<'a, R: Threads + Sync, W: Sink>(
     rt: &R,
     alloc: Global,
-    script: &Input<'a>,
+    script: Script,
     certificate: &Input<'a>,
     output: &mut W,
 ) -> Result<u8, ProgramError<'a>>
-    requires { W.is_broken output.old ≡ false }
+    requires script { IsReadScript (script_view script) }
+    requires works { W.is_broken output.old ≡ false }
     ensures judged { IfOk result (λ status.
-        IsConfirmed script.now certificate.now (W.taken output.old) (W.taken output.new) status
-        ⊎ IsDenied script.now certificate.now (W.taken output.old) (W.taken output.new) status) }
-    ensures fault { IfErr result (λ failure. IfSome (told_fault failure) (IsFaultFor script.now certificate.now)) }
+        IsConfirmed (script_view script) certificate.now (W.taken output.old) (W.taken output.new) status
+        ⊎ IsDenied (script_view script) certificate.now (W.taken output.old) (W.taken output.new) status) }
+    ensures fault { IfErr result (λ failure. IfSome (told_fault failure) (IsFaultFor (script_view script) certificate.now)) }
     ensures nothing_written { IfErr result (λ failure. failure_status failure ≡ 1 → output.new ≡ output.old) }
     ensures device { MatchResult result (λ _. W.is_broken output.new ≡ false) (λ failure. W.is_broken output.new ≡ is_unwritten failure) }
-    ensures begun { OnErr result ((output.new ≡ output.old) ⊎ BeginsVerdict script.now certificate.now (W.taken output.old) (W.taken output.new)) }
+    ensures begun { OnErr result ((output.new ≡ output.old) ⊎ BeginsVerdict (script_view script) certificate.now (W.taken output.old) (W.taken output.new)) }
 {
-    match certify_texts(rt, alloc, script.bytes(), certificate.bytes(), output) {
+    match certify_script(rt, alloc, script, certificate.bytes(), output) {
         Ok(true) => Ok(status::DONE),
         Ok(false) => Ok(status::DENIED),
-        Err(refusal) => {
-            let input = match refusal.source {
-                Source::Script => script,
-                Source::Certificate => certificate,
-            };
-            Err(ProgramError::of_run(refusal.error, input))
-        }
+        Err(error) => Err(ProgramError::of_run(error, certificate)),
     }
 }
 

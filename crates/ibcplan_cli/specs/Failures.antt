@@ -4,14 +4,15 @@ use Rattle.rb_script_toml.specs.Faults.{Fault, fault_view}
 use Rattle.rb_script_toml.specs.declared.fault.RunError.{RunError}
 use Rattle.rb_script_toml.specs.declared.fault.RunError.TheVariants as errors
 use Rattle.ibcplan_cli.specs.declared.error.ProgramError.{ProgramError}
-use Rattle.ibcplan_cli.specs.declared.error.ProgramError.TheVariants.{Refused, RefusedAnswers, NoSuchTurn, NoSuchClient, BadClient, NoJournal, DamagedJournal, JournalFails, Unreadable, UnreadableAnswers, Unmade, Unwritten, NoMemory}
+use Rattle.ibcplan_cli.specs.declared.error.ProgramError.TheVariants.{Refused, RefusedAnswers, NoSuchTurn, NoSuchClient, WrongFile, BadClient, NoJournal, DamagedJournal, JournalFails, Unreadable, UnreadableAnswers, Unmade, Unwritten, NoMemory}
 
--- 1: a file's content was refused; 2: the script hasn't the turn or the client that was asked for, a configuration makes no setup for a client, or a file can't be the journal, or is damaged; 4: want of memory, or a file or an output that fails
+-- 1: a file's content was refused; 2: the script hasn't the turn or the client that was asked for, a setup stands for a script or a script for a setup, a configuration makes no setup for a client, or a file can't be the journal, or is damaged; 4: want of memory, or a file or an output that fails
 abbrev pub failure_status : ProgramError → ℕ
 failure_status (Refused fault flaw) = 1
 failure_status (RefusedAnswers problem) = 1
 failure_status (NoSuchTurn turn turns) = 2
 failure_status (NoSuchClient client file) = 2
+failure_status (WrongFile file reason) = 2
 failure_status (BadClient client reason) = 2
 failure_status (NoJournal file reason) = 2
 failure_status (DamagedJournal file place) = 2
@@ -32,6 +33,7 @@ told_fault (Refused fault flaw) = Some (fault_view fault)
 told_fault (RefusedAnswers problem) = None
 told_fault (NoSuchTurn turn turns) = None
 told_fault (NoSuchClient client file) = None
+told_fault (WrongFile file reason) = None
 told_fault (BadClient client reason) = None
 told_fault (NoJournal file reason) = None
 told_fault (DamagedJournal file place) = None
@@ -48,6 +50,7 @@ is_unwritten (Refused fault flaw) = false
 is_unwritten (RefusedAnswers problem) = false
 is_unwritten (NoSuchTurn turn turns) = false
 is_unwritten (NoSuchClient client file) = false
+is_unwritten (WrongFile file reason) = false
 is_unwritten (BadClient client reason) = false
 is_unwritten (NoJournal file reason) = false
 is_unwritten (DamagedJournal file place) = false

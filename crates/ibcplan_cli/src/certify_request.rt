@@ -1,6 +1,7 @@
 //! The command line of `certify`.
+use crate::given::{FOLDER, Given, SCRIPT, given_command, import_of};
 use crate::input::STANDARD_INPUT;
-use crate::request::{JSON, Request, SCRIPT, flag, script_command};
+use crate::request::{JSON, Request, flag};
 use clap::error::ErrorKind;
 use clap::{Arg, ArgMatches, Command, Error};
 use std::alloc::{AllocError, Global};
@@ -9,9 +10,12 @@ pub(crate) const CERTIFY: &str = "certify";
 
 const CERT: &str = "CERT";
 
+const USAGE: &str = "ibcplan certify [OPTIONS] <SCRIPT> <CERT> | <SETUP> <FOLDER> <CERT> | -";
+
 const AFTER_CERTIFY: &str = "Examples (in the folder of the repository):
   ./ibcplan certify examples/smallest.toml examples/smallest.certificate
   ./ibcplan certify examples/smallest.toml - < examples/smallest.certificate
+  ./ibcplan certify setup.toml answers plan.certificate
   (cat examples/smallest.toml; echo ---; cat examples/smallest.certificate) |
     ./ibcplan certify -
 
@@ -20,7 +24,8 @@ come from standard input, the script is first, and a line --- ends it.";
 
 pub(crate) fn certify_command<'a>(alloc: Global) -> Result<Command<'a>, AllocError> {
     let about = "Judges whether a plan is the cheapest for a script, or whether there is none";
-    script_command(alloc, CERTIFY, about, AFTER_CERTIFY)?
+    given_command(alloc, CERTIFY, about, AFTER_CERTIFY, CERT)?
+        .override_usage(USAGE)
         .arg(certificate(alloc))?
         .arg(flag(alloc, JSON, "Writes the verdict as JSON"))
 }
@@ -32,26 +37,33 @@ fn certificate<'a>(alloc: Global) -> Arg<'a> {
     )
 }
 
-/// The request of `certify`, or none where no certificate is given beside a file, or standard input is to be both.
+/// The request of `certify`: of two words the second is the certificate, of three the first two are a setup and a folder. None
+/// where no certificate is given beside a file, or standard input is to be both.
 pub(crate) fn certify_of<'a>(given: &ArgMatches<'a>) -> Option<Request<'a>> {
-    let script = given.get_str(SCRIPT)?;
+    let file = given.get_str(SCRIPT)?;
     let is_json = given.get_flag(JSON);
-    match given.get_str(CERT) {
-        None if script == STANDARD_INPUT => Some(Request::CertifyInput { is_json }),
-        None => None,
-        Some(certificate) if script == STANDARD_INPUT && certificate == STANDARD_INPUT => None,
-        Some(certificate) => Some(Request::Certify {
-            script,
-            certificate,
-            is_json,
-        }),
+    let (script, certificate) = match (given.get_str(FOLDER), given.get_str(CERT)) {
+        (Some(folder), Some(certificate)) => {
+            (Given::Setup(import_of(given, file, folder)), certificate)
+        }
+        (Some(certificate), None) => (Given::Script(file), certificate),
+        (None, _) if file == STANDARD_INPUT => return Some(Request::CertifyInput { is_json }),
+        (None, _) => return None,
+    };
+    if file == STANDARD_INPUT && certificate == STANDARD_INPUT {
+        return None;
     }
+    Some(Request::Certify {
+        given: script,
+        certificate,
+        is_json,
+    })
 }
 
 /// What is wrong with the words of `certify` that make no request.
 pub(crate) fn certify_flaw(alloc: Global, given: &ArgMatches<'_>) -> Result<Error, AllocError> {
     let mut command = certify_command(alloc)?.bin_name("ibcplan certify")?;
-    if given.get_str(CERT).is_some() {
+    if given.get_str(FOLDER).is_some() {
         command.error(
             ErrorKind::ArgumentConflict,
             "only one of <SCRIPT> and <CERT> can be standard input\n\n  certify - takes both from there, one after the other",

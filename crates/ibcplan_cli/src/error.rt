@@ -14,6 +14,11 @@ use std::alloc::Global;
 use std::{fmt, io};
 use thiserror::Error;
 
+const LONE_SETUP: &str =
+    "it is a setup: give the folder of the answers of nodes behind it, or the script that import makes of both";
+
+const OTHER_SCRIPT: &str = "it is a script, which has its events: leave the folder out";
+
 /// How many turns the script of a file has, told as which is the last.
 #[derive(Clone, Copy, Debug)]
 pub struct Turns<'a> {
@@ -88,6 +93,12 @@ pub enum ProgramError<'a> {
         client: Shown<'a>,
         file: Shown<'a>,
     },
+    /// A setup stands without its folder, or a script with one.
+    #[error("error: invalid value '{file}' for '<SCRIPT>': {reason}\n\nFor more information, try '--help'.")]
+    WrongFile {
+        file: Shown<'a>,
+        reason: &'static str,
+    },
     /// A configuration makes no setup for a client.
     #[error("error: invalid value '{client}' for '<CLIENT>...': {reason}\n\nFor more information, try '--help'.")]
     BadClient {
@@ -125,6 +136,30 @@ impl<'a> ProgramError<'a> {
             }
             RunError::Device => ProgramError::untaken(),
             RunError::NoMemory => ProgramError::NoMemory,
+        }
+    }
+
+    /// That a setup stands where a script belongs.
+    pub fn of_lone_setup(input: &Input<'a>) -> ProgramError<'a>
+        ensures status { failure_status result ≡ 2 }
+        ensures fault { told_fault result ≡ None }
+        ensures device { is_unwritten result ≡ false }
+    {
+        ProgramError::WrongFile {
+            file: input.name(),
+            reason: LONE_SETUP,
+        }
+    }
+
+    /// That a script stands where a setup belongs.
+    pub fn of_other_script(input: &Input<'a>) -> ProgramError<'a>
+        ensures status { failure_status result ≡ 2 }
+        ensures fault { told_fault result ≡ None }
+        ensures device { is_unwritten result ≡ false }
+    {
+        ProgramError::WrongFile {
+            file: input.name(),
+            reason: OTHER_SCRIPT,
         }
     }
 
@@ -209,6 +244,7 @@ impl<'a> ProgramError<'a> {
             ProgramError::Refused { .. } | ProgramError::RefusedAnswers(_) => status::REFUSED,
             ProgramError::NoSuchTurn { .. }
             | ProgramError::NoSuchClient { .. }
+            | ProgramError::WrongFile { .. }
             | ProgramError::BadClient { .. }
             | ProgramError::NoJournal { .. }
             | ProgramError::DamagedJournal { .. } => status::COMMAND_LINE,

@@ -1,5 +1,6 @@
 //! The command lines of `explain` and `picture`.
-use crate::request::{JSON, Wanted, flag, last, script_command, turn, turns_of};
+use crate::given::{FOLDER, given_command};
+use crate::request::{JSON, Wanted, flag, last, turn, turns_of};
 use clap::{Arg, ArgAction, ArgMatches, Command};
 use std::alloc::{AllocError, Global};
 
@@ -28,7 +29,7 @@ It draws one turn, the last one without --turn, and every client of it without
 pub(crate) fn explain_command<'a>(alloc: Global) -> Result<Command<'a>, AllocError> {
     let about =
         "Writes why each plan is as it is: its steps with their powers, and the lists beside it";
-    script_command(alloc, EXPLAIN, about, AFTER_EXPLAIN)?
+    given_command(alloc, EXPLAIN, about, AFTER_EXPLAIN, FOLDER)?
         .arg(turn(alloc))?
         .arg(last(alloc)?)?
         .arg(client(alloc))?
@@ -43,7 +44,7 @@ pub(crate) fn explain_command<'a>(alloc: Global) -> Result<Command<'a>, AllocErr
 pub(crate) fn picture_command<'a>(alloc: Global) -> Result<Command<'a>, AllocError> {
     let about =
         "Draws a turn as SVG: heights, sets, updates, what is refused, a bisection, messages";
-    script_command(alloc, PICTURE, about, AFTER_PICTURE)?
+    given_command(alloc, PICTURE, about, AFTER_PICTURE, FOLDER)?
         .arg(turn(alloc))?
         .arg(last(alloc)?)?
         .arg(client(alloc))

@@ -1,5 +1,6 @@
 //! The command line of `health`.
-use crate::request::{Wanted, flag, script_command};
+use crate::given::{FOLDER, given_command};
+use crate::request::{Wanted, flag};
 use clap::{ArgMatches, Command};
 use std::alloc::{AllocError, Global};
 
@@ -16,7 +17,7 @@ by the last moment of the window that is then in force.";
 
 pub(crate) fn health_command<'a>(alloc: Global) -> Result<Command<'a>, AllocError> {
     let about = "Writes when each client expires, and whether it is live";
-    script_command(alloc, HEALTH, about, AFTER_HEALTH)?.arg(flag(
+    given_command(alloc, HEALTH, about, AFTER_HEALTH, FOLDER)?.arg(flag(
         alloc,
         PROMETHEUS,
         "Writes the moments as metrics, in the text format of Prometheus",

@@ -1,5 +1,6 @@
 //! The command line of `messages`.
-use crate::request::{FOLDER, VERIFIED, Wanted, flag, path, script_command};
+use crate::given::{FOLDER, SCRIPT, all_or_nothing, import_of, verified};
+use crate::request::{Request, path};
 use clap::{ArgMatches, Command};
 use std::alloc::{AllocError, Global};
 
@@ -19,7 +20,7 @@ file for each update of the last turn, in the order of the transactions, as
 line for each message tells its file, its client and its transaction.
 
 In the place of SCRIPT the setup of import may stand, which is imported first, with
-the same notices and exit status, and with --verified as import --verified does.
+the same options, notices and exit status.
 Hosts whose chains have signer, fee_denom and gas_price there get transactions with
 the updates and the packet messages, as 'tx sign' reads them. Where a proof isn't
 there, nothing is made (exit status 7): lines as those of want tell what to ask. A
@@ -28,21 +29,25 @@ packet message whose proof fails is left out (exit status 7); standard error say
 pub(crate) fn messages_command<'a>(alloc: Global) -> Result<Command<'a>, AllocError> {
     let about =
         "Writes the messages of a script's or a setup's last turn, and a shell file that sends them";
-    script_command(alloc, MESSAGES, about, AFTER_MESSAGES)?
+    Command::new(alloc, MESSAGES)
+        .about(about)
+        .after_help(AFTER_MESSAGES)
+        .arg(path(
+            alloc,
+            SCRIPT,
+            "The script's or the setup's file; - for standard input",
+        ))?
         .arg(path(alloc, FOLDER, "The folder of the answers of nodes"))?
         .arg(path(alloc, DIR, "The folder that is made"))?
-        .arg(flag(
-            alloc,
-            VERIFIED,
-            "Of a setup: takes only headers that more than 2/3 of their set signed, by good verdicts",
-        ))
+        .arg(all_or_nothing(alloc))?
+        .arg(verified(alloc))
 }
 
-/// What `messages` is to write, or none where a word is missing.
-pub(crate) fn messages_of<'a>(given: &ArgMatches<'a>) -> Option<Wanted<'a>> {
-    Some(Wanted::Messages {
-        folder: given.get_str(FOLDER)?,
+/// The request of `messages`, or none where a word is missing.
+pub(crate) fn messages_of<'a>(given: &ArgMatches<'a>) -> Option<Request<'a>> {
+    let (file, folder) = (given.get_str(SCRIPT)?, given.get_str(FOLDER)?);
+    Some(Request::Messages {
+        import: import_of(given, file, folder),
         output: given.get_str(DIR)?,
-        is_verified: given.get_flag(VERIFIED),
     })
 }

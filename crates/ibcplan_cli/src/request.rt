@@ -4,6 +4,9 @@ use crate::explain_request::{
     EXPLAIN, PICTURE, explain_command, explanation_of, picture_command, picture_of,
 };
 use crate::follow_request::{FOLLOW, Following, follow_command, follow_of};
+use crate::given::{
+    FOLDER, Given, Import, all_or_nothing, given_command, given_of, import_of, verified,
+};
 use crate::health_request::{HEALTH, health_command, health_of};
 use crate::messages_request::{MESSAGES, messages_command, messages_of};
 use crate::setup_request::{HERMES, SETUP_COMMAND, clients_of, setup_command};
@@ -19,17 +22,17 @@ use std::alloc::{AllocError, Global};
 pub enum Request<'a> {
     /// Write something about a script.
     Script {
-        script: &'a str,
+        given: Given<'a>,
         wanted: Wanted<'a>,
     },
-    /// Write the script that a setup and the answers in a folder make, maybe of verified votes alone; or nothing, where some
-    /// of them are refused.
-    Import {
-        setup: &'a str,
-        folder: &'a str,
-        is_all_or_nothing: bool,
-        is_verified: bool,
+    /// Write the messages of the last turn of the script in a file, or of that which the setup in it makes, of the answers in
+    /// a folder, into a new folder.
+    Messages {
+        import: Import<'a>,
+        output: &'a str,
     },
+    /// Write the script that a setup and the answers in a folder make.
+    Import(Import<'a>),
     /// Write a setup for clients, of the configuration of Hermes.
     Setup {
         config: &'a str,
@@ -53,7 +56,7 @@ pub enum Request<'a> {
     },
     /// Judge a certificate.
     Certify {
-        script: &'a str,
+        given: Given<'a>,
         certificate: &'a str,
         is_json: bool,
     },
@@ -75,7 +78,10 @@ impl Request<'_> {
             }
             Request::Certify { is_json, .. } | Request::CertifyInput { is_json } => *is_json,
             Request::Version => true,
-            Request::Import { .. } | Request::Setup { .. } | Request::Want { .. } => false,
+            Request::Messages { .. }
+            | Request::Import(_)
+            | Request::Setup { .. }
+            | Request::Want { .. } => false,
         }
     }
 }
@@ -113,16 +119,17 @@ pub enum Wanted<'a> {
     Health {
         are_metrics: bool,
     },
-    /// The messages of its last turn, or of that of the script that a setup makes, maybe of verified votes alone, made of
-    /// the answers in a folder, into a new folder.
-    Messages {
-        folder: &'a str,
-        output: &'a str,
-        is_verified: bool,
-    },
 }
 
 impl Wanted<'_> {
+    /// How many threads may read the script.
+    pub fn threads(&self) -> usize {
+        match self {
+            Wanted::Report { workers, .. } | Wanted::Json { workers, .. } => workers.count(),
+            _ => 0,
+        }
+    }
+
     fn is_json(&self) -> bool {
         match self {
             Wanted::Json { .. } => true,
@@ -163,15 +170,7 @@ const IMPORT: &str = "import";
 
 const WANT: &str = "want";
 
-pub(crate) const SCRIPT: &str = "SCRIPT";
-
 const SETUP: &str = "SETUP";
-
-pub(crate) const FOLDER: &str = "FOLDER";
-
-const ALL_OR_NOTHING: &str = "all-or-nothing";
-
-pub(crate) const VERIFIED: &str = "verified";
 
 const VERSION: &str = "--version";
 
@@ -199,13 +198,18 @@ Exit status:
   6  of plan and run with --strict: the report is written, and a window, an event
      or a settlement in it is refused; unless it is JSON, its lines that begin
      with 'refused' say which
-  7  of import: the script is written, but without the clients and the paths whose
-     answers are refused; standard error says which. Of messages the same, or a
-     packet message is left out, or proofs are to be asked for first";
+  7  of import, and where a setup and a folder stand in the place of a script: what
+     is asked for is written, but without the clients and the paths whose answers
+     are refused; standard error says which. Of messages also that a packet message
+     is left out, or that proofs are to be asked for first
+
+In the place of a script a setup and the folder of the answers of nodes may stand:
+then it is the script that import makes of them, with the same notices.";
 
 const AFTER_PLAN: &str = "Examples (in the folder of the repository):
   ./ibcplan plan examples/smallest.toml
   ./ibcplan plan - < examples/smallest.toml > report.txt
+  ./ibcplan plan examples/import/setup.toml examples/import/answers
   ./ibcplan plan --json examples/two_clients.toml | jq .
   ./ibcplan plan --strict examples/lost_client.toml || echo \"exit status $?\"";
 
@@ -229,7 +233,6 @@ are valid.";
 
 const AFTER_IMPORT: &str = "Examples (in the folder of the repository):
   ./ibcplan import examples/import/setup.toml examples/import/answers > script.toml
-  ./ibcplan import setup.toml answers | ./ibcplan plan -
   ./ibcplan import --all-or-nothing setup.toml answers > script.toml
   ./ibcplan import --verified setup.toml answers > script.toml
 
@@ -299,30 +302,17 @@ pub(crate) fn last<'a>(alloc: Global) -> Result<Arg<'a>, AllocError> {
     flag(alloc, LAST, "Writes those of the last turn alone").conflicts_with(TURN)
 }
 
-/// A command that takes a script first.
-pub(crate) fn script_command<'a>(
-    alloc: Global,
-    name: &'static str,
-    about: &'static str,
-    examples: &'static str,
-) -> Result<Command<'a>, AllocError> {
-    Command::new(alloc, name)
-        .about(about)
-        .after_help(examples)
-        .arg(path(alloc, SCRIPT, "The script's file; - for standard input"))
-}
-
 fn plan_command<'a>(alloc: Global) -> Result<Command<'a>, AllocError> {
     let about =
         "Writes the report of a script: for each turn and client the cheapest list of updates";
-    script_command(alloc, PLAN, about, AFTER_PLAN)?
+    given_command(alloc, PLAN, about, AFTER_PLAN, FOLDER)?
         .arg(json(alloc))?
         .arg(strict(alloc))
 }
 
 fn run_command<'a>(alloc: Global) -> Result<Command<'a>, AllocError> {
     let about = "Writes the report of a script as plan does, by several threads";
-    script_command(alloc, RUN, about, AFTER_RUN)?
+    given_command(alloc, RUN, about, AFTER_RUN, FOLDER)?
         .arg(workers(alloc))?
         .arg(json(alloc))?
         .arg(strict(alloc))
@@ -330,7 +320,7 @@ fn run_command<'a>(alloc: Global) -> Result<Command<'a>, AllocError> {
 
 fn commands_command<'a>(alloc: Global) -> Result<Command<'a>, AllocError> {
     let about = "Writes the commands (of Hermes) that submit the updates of a script's plans";
-    script_command(alloc, COMMANDS, about, AFTER_COMMANDS)?
+    given_command(alloc, COMMANDS, about, AFTER_COMMANDS, FOLDER)?
         .arg(turn(alloc))?
         .arg(last(alloc)?)
 }
@@ -345,16 +335,8 @@ fn import_command<'a>(alloc: Global) -> Result<Command<'a>, AllocError> {
             "A script without events; - for standard input",
         ))?
         .arg(path(alloc, FOLDER, "The folder of the answers of nodes"))?
-        .arg(flag(
-            alloc,
-            ALL_OR_NOTHING,
-            "Writes nothing where answers of one client or path are refused",
-        ))?
-        .arg(flag(
-            alloc,
-            VERIFIED,
-            "Takes only headers that more than 2/3 of their set signed, by good verdicts",
-        ))
+        .arg(all_or_nothing(alloc))?
+        .arg(verified(alloc))
 }
 
 fn want_command<'a>(alloc: Global) -> Result<Command<'a>, AllocError> {
@@ -451,12 +433,7 @@ fn folder_task_of<'a>(name: &str, given: &ArgMatches<'a>) -> Option<Request<'a>>
     if name == WANT {
         return Some(Request::Want { setup, folder });
     }
-    Some(Request::Import {
-        setup,
-        folder,
-        is_all_or_nothing: given.get_flag(ALL_OR_NOTHING),
-        is_verified: given.get_flag(VERIFIED),
-    })
+    Some(Request::Import(import_of(given, setup, folder)))
 }
 
 /// What a command is to write about a script, or none where a word is missing.
@@ -470,8 +447,6 @@ fn wanted_of<'a>(name: &str, given: &ArgMatches<'a>) -> Option<Wanted<'a>> {
         Some(picture_of(given))
     } else if name == HEALTH {
         Some(health_of(given))
-    } else if name == MESSAGES {
-        messages_of(given)
     } else {
         plan_of(name, given)
     }
@@ -479,9 +454,9 @@ fn wanted_of<'a>(name: &str, given: &ArgMatches<'a>) -> Option<Wanted<'a>> {
 
 /// The request of a command that takes a script, or none where a word is missing.
 fn script_task_of<'a>(name: &str, given: &ArgMatches<'a>) -> Option<Request<'a>> {
-    let script = given.get_str(SCRIPT)?;
     let wanted = wanted_of(name, given)?;
-    Some(Request::Script { script, wanted })
+    let given = given_of(given)?;
+    Some(Request::Script { given, wanted })
 }
 
 /// The request of a command by its name, or none where a word is missing.
@@ -492,6 +467,8 @@ fn named_task_of<'a>(name: &str, given: &ArgMatches<'a>) -> Option<Request<'a>> 
         follow_of(given)
     } else if name == CERTIFY {
         certify_of(given)
+    } else if name == MESSAGES {
+        messages_of(given)
     } else {
         script_task_of(name, given)
     }

@@ -46,7 +46,7 @@ yes_from Yes e = refl
 yes_from (No r) e = absurd (false≢true e)
 
 -- an answer of true says that the certificate's answer is right
-pub certified : (script certificate : List ℕ) (case : Case) (answer : Bool) (v : Judgement) → case_of script certificate ≡ Ok case → answer ≡ is_yes v
+pub certified : (script : Script Global) (certificate : List ℕ) (case : Case) (answer : Bool) (v : Judgement) → case_of script certificate ≡ Ok case → answer ≡ is_yes v
     → (◌≡◌ {A = Result Judgement RunError} (Ok v) (Ok Yes) → IsRightCase case)
     → ◌≡◌ {A = Result Bool RunError} (Ok answer) (Ok true) → IsCertified script certificate
 certified script certificate case answer v read told right is_true =

@@ -14,13 +14,10 @@ use Rattle.rb_super_scripts.specs.Judging.{IsVerdictOn, IsRightIn, IsReported}
 use Rattle.rb_super_turn.specs.Report.{Report}
 use Rattle.rb_super_scripts.specs.AsEvents.{as_events}
 use Rattle.rb_script_types.specs.Script.{Script, script_view}
-use Rattle.rb_script_toml.specs.declared.fault.RunError.{RunError}
 use Rattle.rb_text.specs.declared.case.Case.{Case as CodeCase}
-use Rattle.rb_text_report.specs.declared.refusal.CertifyError.{CertifyError}
 use Rattle.rb_text_report.specs.VerdictLine.{verdict_line, is_yes}
 use Rattle.rb_text_report.specs.Certificates.{Certificate, certificate_of, certificate_view}
 use Rattle.rb_script_config.specs.Named.{known}
-use Rattle.rb_script_read.specs.Scripts.{script_of}
 
 -- ---- what is judged
 
@@ -34,18 +31,18 @@ pub record Case : Type 0 where
 abbrev pub case_view : CodeCase → Case
 case_view c = record { script = script_view c.script; certificate = certificate_view c.certificate; turn = c.turn; client = c.client }
 
--- both texts are read, the script first; then the turn is looked up, and then the client
+-- the certificate's turn is looked up in the script, and then its client
 unfoldable pub case_in : Script Global → Certificate → Result Case Fault
 case_in s c = do
   _ ← check (nat_lt (c.turn - 1) (length s.turns)) NoSuchTurn (codes "turn")
   client ← known (codes "client") (position (bytes_eq c.client) (map (λ (k : ClientConfig). k.id) s.config.clients))
   Ok (record { script = s; certificate = c; turn = c.turn - 1; client = client })
 
-unfoldable pub case_of : List ℕ → List ℕ → Result Case Fault
+-- the certificate is read of its text before
+unfoldable pub case_of : Script Global → List ℕ → Result Case Fault
 case_of script certificate = do
-  s ← script_of script
   c ← certificate_of certificate
-  case_in s c
+  case_in script c
 
 -- the verdict on the certificate's answer, for its client in its turn; none where the client is held or idle there
 abbrev pub IsVerdictOf : Case → Option Judgement → Type 0
@@ -64,36 +61,31 @@ no_goal = record { name = NoGoal; path = codes "client" }
 
 -- ---- what is promised
 
--- the answer without the text that an error is of
-abbrev pub plain : {A : Type 0} → Result A CertifyError → Result A RunError
-plain (Ok x) = Ok x
-plain (Err e) = Err e.error
-
--- the texts hold a case, and this is the verdict on it
-pub record IsVerdictFor (script certificate : List ℕ) (verdict : Option Judgement) : Type 0 where
+-- the script and the certificate's text make a case, and this is the verdict on it
+pub record IsVerdictFor (script : Script Global) (certificate : List ℕ) (verdict : Option Judgement) : Type 0 where
   pub case : Case
   pub read : case_of script certificate ≡ Ok case
   pub judged : IsVerdictOf case verdict
 
--- why nothing is judged: the first fault of the texts, or a client that is held or idle
-abbrev pub IsFaultFor : List ℕ → List ℕ → Fault → Type 0
+-- why nothing is judged: the certificate's first fault, or a client that is held or idle
+abbrev pub IsFaultFor : Script Global → List ℕ → Fault → Type 0
 IsFaultFor script certificate f = (case_of script certificate ≡ Err f) ⊎ ((f ≡ no_goal) × IsVerdictFor script certificate None)
 
 -- the writer took the verdict's line; the answer tells whether it is yes
-pub record WritesVerdict (script certificate : List ℕ) (yes : Bool) (old new : Option (List ℕ)) : Type 0 where
+pub record WritesVerdict (script : Script Global) (certificate : List ℕ) (yes : Bool) (old new : Option (List ℕ)) : Type 0 where
   pub verdict : Judgement
   pub judged : IsVerdictFor script certificate (Some verdict)
   pub answer : yes ≡ is_yes verdict
   pub written : Appends old new (verdict_line verdict)
 
 -- the writer took a beginning of it
-pub record BeginsVerdict (script certificate : List ℕ) (old new : Option (List ℕ)) : Type 0 where
+pub record BeginsVerdict (script : Script Global) (certificate : List ℕ) (old new : Option (List ℕ)) : Type 0 where
   pub verdict : Judgement
   pub judged : IsVerdictFor script certificate (Some verdict)
   pub begun : AppendsBeginning old new (verdict_line verdict)
 
 -- the certificate's answer is right
-pub record IsCertified (script certificate : List ℕ) : Type 0 where
+pub record IsCertified (script : Script Global) (certificate : List ℕ) : Type 0 where
   pub case : Case
   pub read : case_of script certificate ≡ Ok case
   pub right : IsRightCase case

@@ -7,15 +7,14 @@ ghost use Rattle.rb_script_types.specs.Script.{IsReadScript, script_view};
 ghost use Rattle.rb_super_scripts.specs.AsEvents.{as_events};
 ghost use Rattle.rb_super_turn.specs.Turns.{IsReportOf};
 ghost use Rattle.rb_text_report.specs.Certificates.{certificate_view};
-ghost use Rattle.rb_text.specs.Verdicts.{case_view, case_in, case_of, plain, IsVerdictOf, IsRightCase, IsReportedCase, no_goal};
+ghost use Rattle.rb_text.specs.Verdicts.{case_view, case_in, case_of, IsVerdictOf, IsRightCase, IsReportedCase, no_goal};
 
 use rb_cert::Judgement;
 use rb_script_config::place_of;
-use rb_script_read::read_script;
 use rb_script_toml::{FaultName, RunError, fault_at};
 use rb_script_types::Script;
 use rb_super::judge;
-use rb_text_report::{Certificate, CertifyError, Source, read_certificate};
+use rb_text_report::{Certificate, read_certificate};
 use std::alloc::Global;
 use std::thread::Threads;
 
@@ -54,40 +53,20 @@ fn case_in(alloc: Global, script: Script, certificate: Certificate) -> Result<Ca
     }
 }
 
-/// Reads both texts, the script first, and looks up what the certificate names; or answers the
-/// first fault.
+/// Reads the certificate, and looks up what it names in the script; or answers the first fault.
 #[tactic(auto, using(rb_script_toml::proofs::Steps::steps), unfolding(crate::specs::Verdicts::case_of))]
 pub(crate) fn read_case(
     alloc: Global,
-    script: &[u8],
+    script: Script,
     certificate: &[u8],
-) -> Result<Case, CertifyError>
-    ensures read { Gives case_view (plain result) (case_of script.now certificate.now) }
-    ensures script { IfOk result (λ c. IsReadScript (script_view c.script)) }
+) -> Result<Case, RunError>
+    ensures read { Gives case_view result (case_of (script_view script) certificate.now) }
+    ensures script { IfOk result (λ c. c.script ≡ script) }
     ensures turn { IfOk result (λ c. c.turn < length c.script.turns.items) }
     ensures client { IfOk result (λ c. c.client < length c.script.config.clients.items) }
 {
-    let script = match read_script(alloc, script) {
-        Ok(script) => script,
-        Err(error) => return Err(CertifyError {
-            source: Source::Script,
-            error,
-        }),
-    };
-    let certificate = match read_certificate(alloc, certificate) {
-        Ok(certificate) => certificate,
-        Err(error) => return Err(CertifyError {
-            source: Source::Certificate,
-            error,
-        }),
-    };
-    match case_in(alloc, script, certificate) {
-        Ok(case) => Ok(case),
-        Err(error) => Err(CertifyError {
-            source: Source::Certificate,
-            error,
-        }),
-    }
+    let certificate = read_certificate(alloc, certificate)?;
+    case_in(alloc, script, certificate)
 }
 
 /// The verdict on the certificate's answer; a fault where its client is held or idle in its turn.

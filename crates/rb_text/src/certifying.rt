@@ -1,21 +1,23 @@
-//! Certifying over texts: read the script and the certificate, judge it, and write the verdict.
+//! Certifying: read the certificate, judge it for a script, and write the verdict.
 ghost use Rattle.std.specs.Prelude.{◌≡◌, ◌↔◌, ◌⊎◌, Ok, true, false, IfOk, OnErr, OnOk, IfErr, IsErrOf};
 ghost use Rattle.std.specs.Io.KnownBytes.{Appends};
 ghost use Rattle.rb_base.specs.Sink.{AppendsBeginning};
 ghost use Rattle.rb_script_toml.specs.declared.fault.Fault.{Fault as CodeFault};
 ghost use Rattle.rb_script_toml.specs.Faults.{fault_view};
 ghost use Rattle.rb_super_turn.specs.Report.{Report};
+ghost use Rattle.rb_script_types.specs.Script.{script_view, IsReadScript};
 ghost use Rattle.rb_super_scripts.specs.AsEvents.{as_events};
 ghost use Rattle.rb_super_turn.specs.Turns.{IsReportOf};
 ghost use Rattle.rb_text_report.specs.VerdictLine.{verdict_line};
-ghost use Rattle.rb_text.specs.Verdicts.{Case, case_of, plain, IsReportedCase, IsFaultFor, WritesVerdict, BeginsVerdict, IsCertified};
+ghost use Rattle.rb_text.specs.Verdicts.{Case, case_of, IsReportedCase, IsFaultFor, WritesVerdict, BeginsVerdict, IsCertified};
 ghost use Rattle.rb_text_report.specs.Written.{IsWriteError};
 
 use crate::case::{judge_case, read_case};
 use rb_base::Sink;
 use rb_cert::Judgement;
 use rb_script_toml::RunError;
-use rb_text_report::{CertifyError, Source, is_yes, push_verdict, put};
+use rb_script_types::Script;
+use rb_text_report::{is_yes, push_verdict, put};
 use std::alloc::Global;
 use std::thread::Threads;
 
@@ -33,46 +35,35 @@ fn put_verdict<W: Sink>(alloc: Global, verdict: &Judgement, writer: &mut W) -> R
     put(writer, text.as_bytes())
 }
 
-/// Judges the certificate that a text holds for the script that another one holds, and writes the
-/// verdict as one line: `yes`, or `no` with the number, the name and the numbers of the first reason
-/// that holds. The verdict is the certifier's, for the view and the goal that a run of the script
-/// plans the client by in the certificate's turn. Ok tells whether it is yes: then the labelling is
-/// sound and the answer right. An error tells, of a fault, which of the two texts has it.
+/// Judges the certificate that a text holds for a script, and writes the verdict as one line: `yes`, or
+/// `no` with the number, the name and the numbers of the first reason that holds. The verdict is the
+/// certifier's, for the view and the goal that a run of the script plans the client by in the
+/// certificate's turn. Ok tells whether it is yes: then the labelling is sound and the answer right.
 ///
-/// `Fault` is the first fault of the script, then of the certificate, then that the script doesn't
-/// have its turn or its client, then that the client is held or idle in that turn; nothing is then
-/// written. `Device` is answered where the writer fails, `NoMemory` where a growth is refused, and a
-/// beginning of the line, or nothing, was then taken. The writer must not have failed before.
-pub fn certify_texts<R: Threads + Sync, W: Sink>(
+/// `Fault` is the first fault of the certificate, then that the script doesn't have its turn or its
+/// client, then that the client is held or idle in that turn; nothing is then written. `Device` is
+/// answered where the writer fails, `NoMemory` where a growth is refused, and a beginning of the line,
+/// or nothing, was then taken. The writer must not have failed before.
+pub fn certify_script<R: Threads + Sync, W: Sink>(
     rt: &R,
     alloc: Global,
-    script: &[u8],
+    script: Script,
     certificate: &[u8],
     writer: &mut W,
-) -> Result<bool, CertifyError>
-    requires { W.is_broken writer.old ≡ false }
-    ensures verdict { IfOk result (λ yes. WritesVerdict script.now certificate.now yes (W.taken writer.old) (W.taken writer.new)) }
-    ensures right { plain result ≡ Ok true → IsCertified script.now certificate.now }
-    ensures accepts { (case : Case) (report : Report) → case_of script.now certificate.now ≡ Ok case → IsReportOf (as_events case.script) report
+) -> Result<bool, RunError>
+    requires script { IsReadScript (script_view script) }
+    requires works { W.is_broken writer.old ≡ false }
+    ensures verdict { IfOk result (λ yes. WritesVerdict (script_view script) certificate.now yes (W.taken writer.old) (W.taken writer.new)) }
+    ensures right { result ≡ Ok true → IsCertified (script_view script) certificate.now }
+    ensures accepts { (case : Case) (report : Report) → case_of (script_view script) certificate.now ≡ Ok case → IsReportOf (as_events case.script) report
         → IsReportedCase report case → IfOk result (λ yes. yes ≡ true) }
-    ensures fault { (f : CodeFault) → IsErrOf (plain result) (RunError.Fault f) → IsFaultFor script.now certificate.now (fault_view f) }
-    ensures nothing_written { (f : CodeFault) → IsErrOf (plain result) (RunError.Fault f) → writer.new ≡ writer.old }
-    ensures device { IsErrOf (plain result) RunError.Device ↔ (W.is_broken writer.new ≡ true) }
-    ensures begun { OnErr result ((writer.new ≡ writer.old) ⊎ BeginsVerdict script.now certificate.now (W.taken writer.old) (W.taken writer.new)) }
+    ensures fault { (f : CodeFault) → IsErrOf result (RunError.Fault f) → IsFaultFor (script_view script) certificate.now (fault_view f) }
+    ensures nothing_written { (f : CodeFault) → IsErrOf result (RunError.Fault f) → writer.new ≡ writer.old }
+    ensures device { IsErrOf result RunError.Device ↔ (W.is_broken writer.new ≡ true) }
+    ensures begun { OnErr result ((writer.new ≡ writer.old) ⊎ BeginsVerdict (script_view script) certificate.now (W.taken writer.old) (W.taken writer.new)) }
 {
     let case = read_case(alloc, script, certificate)?;
-    let verdict = match judge_case(rt, alloc, case) {
-        Ok(verdict) => verdict,
-        Err(error) => return Err(CertifyError {
-            source: Source::Certificate,
-            error,
-        }),
-    };
-    match put_verdict(alloc, &verdict, writer) {
-        Ok(()) => Ok(is_yes(&verdict)),
-        Err(error) => Err(CertifyError {
-            source: Source::Certificate,
-            error,
-        }),
-    }
+    let verdict = judge_case(rt, alloc, case)?;
+    put_verdict(alloc, &verdict, writer)?;
+    Ok(is_yes(&verdict))
 }

@@ -1,6 +1,6 @@
-//! From the texts of a relayer's run to texts: `run_over`, which goes from a script to its report
-//! (`report_over` also answers it, `report_of` makes it without writing it), and `certify_texts`, which
-//! judges a certificate for a script.
+//! From a relayer's script to texts: `run_over`, which goes from the text of a script to its report
+//! (`report_over` also answers it); of a script that is there as data `write_report_of` does the same,
+//! `report_of` makes the report without writing it, and `certify_script` judges a certificate.
 #![tactic(auto)]
 
 mod case;
@@ -8,6 +8,6 @@ mod certifying;
 mod running;
 mod threads;
 
-pub use certifying::certify_texts;
-pub use running::{report_of, report_over, run_over};
+pub use certifying::certify_script;
+pub use running::{report_of, report_over, run_over, write_report_of};
 pub use threads::{Shares, shares_of};

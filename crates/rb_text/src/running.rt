@@ -10,6 +10,7 @@ ghost use Rattle.rb_super_turn.specs.Script as relayed;
 ghost use Rattle.rb_super_turn.specs.Turns.{IsReportOf};
 ghost use Rattle.rb_super_turn.specs.Views.{report_view};
 ghost use Rattle.rb_text.specs.Headline.{WritesReport, WritesThisReport, BeginsReport};
+ghost use Rattle.rb_text.specs.Reports.{WritesReportOf, BeginsReportOf};
 
 use crate::threads::shares_of;
 use rb_base::{Gate, Sink};
@@ -138,6 +139,32 @@ pub fn report_over<
     ensures begun { OnErr result ((writer.new ≡ writer.old) ⊎ BeginsReport bytes.now (W.taken writer.old) (W.taken writer.new)) }
 {
     let script = read_script_by(rt, alloc, bytes, workers)?;
+    write_report_of(rt, alloc, script, writer, workers, gate)
+}
+
+/// Runs a script, writes its report as `run_over` does, and answers it. `Device` is answered where the
+/// writer fails, `NoMemory` where a growth is refused, and a beginning of the report, or nothing, was then
+/// taken.
+pub fn write_report_of<
+    R: Threads + Wait + Copy + Send + Sync + 'static,
+    W: Sink,
+    G: Gate + Send + Sync + Drop + 'static,
+>(
+    rt: &R,
+    alloc: Global,
+    script: Script,
+    writer: &mut W,
+    workers: usize,
+    gate: &Arc<G, Global>,
+) -> Result<Report, RunError>
+    requires script { IsReadScript (script_view script) }
+    requires works { W.is_broken writer.old ≡ false }
+    requires workers { workers ≤ 64 }
+    ensures report { IfOk result (λ report. WritesReportOf (script_view script) (W.taken writer.old) (W.taken writer.new) report.chains.items report.paths.items (report_view report)) }
+    ensures no_fault { (f : CodeFault) → ¬ IsErrOf result (RunError.Fault f) }
+    ensures device { IsErrOf result RunError.Device ↔ (W.is_broken writer.new ≡ true) }
+    ensures begun { OnErr result ((writer.new ≡ writer.old) ⊎ BeginsReportOf (script_view script) (W.taken writer.old) (W.taken writer.new)) }
+{
     let report = report_by(rt, alloc, script, workers, gate)?;
     write_report(alloc, &report, writer)?;
     Ok(report)

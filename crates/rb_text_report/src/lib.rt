@@ -3,13 +3,11 @@
 #![tactic(auto)]
 
 mod certificate;
-mod refusal;
 mod report;
 mod verdict;
 mod write;
 
 pub use certificate::{Certificate, read_certificate};
-pub use refusal::{CertifyError, Source};
 pub use report::push_turn;
 pub use verdict::{is_yes, push_verdict};
 pub use write::{first_line, put, write_report};
