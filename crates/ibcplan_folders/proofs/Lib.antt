@@ -1,4 +1,6 @@
-pub mod Lefts
-pub mod Wholes
 pub mod Files
+pub mod Known
+pub mod Leaving
+pub mod Lefts
 pub mod Told
+pub mod Wholes

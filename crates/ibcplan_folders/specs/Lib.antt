@@ -1,4 +1,7 @@
 pub mod LeftOut
 pub mod Files
+pub mod Folders
+pub mod Fleets
+pub mod Leavings
 pub mod Messages
 pub mod Packets

@@ -1,8 +1,9 @@
 //! What is left of a fleet without the clients and the paths whose answers are refused, and the lines that tell of those.
 ghost use Rattle.std.specs.Prelude.{◌≡◌, ◌<◌, ◌==◌, IfOk, OnOk, false, filter, get_or, is_some, string_bytes, true};
-ghost use Rattle.std.specs.List.{items_where_true, list_any};
+ghost use Rattle.std.specs.List.{AllZip, enumerate_from, items_where_true, list_any};
 ghost use Rattle.rb_import_setup.specs.Rests.{client_stays};
 ghost use Rattle.ibcplan_folders.specs.LeftOut.{clients_stay, import_status, object_count, paths_stay};
+ghost use Rattle.ibcplan_folders.specs.Leavings.{IsFleetWithout, StaysTracked};
 
 use ibcplan_cli::{ProgramError, status};
 use rb_import_check::{Saved, SavedAnswers};
@@ -65,6 +66,7 @@ impl<'a> LeftOut<'a> {
     ) -> Result<Fleet, ProgramError<'a>>
         ensures fewer { IfOk result (λ rest. object_count rest < object_count fleet) }
         ensures told { OnOk result (is_some self.new.first ≡ true) }
+        ensures left { IfOk result (IsFleetWithout (string_bytes failure.id) fleet) }
     {
         let count = object_count(&fleet);
         let Ok(rest) = rest_of(alloc, fleet, &failure, &mut self.lines) else {
@@ -99,6 +101,7 @@ fn rest_of(
 ) -> Result<Fleet, AllocError>
     ensures clients { IfOk result (λ rest. rest.setup.clients.items ≡ filter (client_stays fleet.setup.chains.items (string_bytes failure.now.id)) fleet.setup.clients.items) }
     ensures of_clients { IfOk result (λ rest. rest.answers.clients.items ≡ items_where_true (clients_stay fleet (string_bytes failure.now.id)) fleet.answers.clients.items) }
+    ensures left { IfOk result (IsFleetWithout (string_bytes failure.now.id) fleet) }
     ensures of_paths { IfOk result (λ rest. rest.answers.paths.items ≡ items_where_true (paths_stay fleet (string_bytes failure.now.id)) fleet.answers.paths.items) }
 {
     let Fleet { setup, answers } = fleet;
@@ -110,7 +113,7 @@ fn rest_of(
         paths,
     } = answers;
     let answers = SavedAnswers {
-        chains: tracked(chains, &rest.setup),
+        chains: tracked(alloc, chains, &rest.setup)?,
         clients: left(alloc, clients, rest.clients.as_slice())?,
         paths: left(alloc, paths, rest.paths.as_slice())?,
     };
@@ -151,14 +154,24 @@ fn add_line(
 }
 
 /// The answers of each chain, none of one that no client tracks.
-fn tracked(answers: Vec<Vec<Saved>>, setup: &Setup) -> Vec<Vec<Saved>> {
-    let mut answers = answers;
-    for (place, saved) in answers.iter_mut().enumerate() {
-        if !is_tracked(setup, place) {
-            saved.clear();
+fn tracked(
+    alloc: Global,
+    answers: Vec<Vec<Saved>>,
+    setup: &Setup,
+) -> Result<Vec<Vec<Saved>>, AllocError>
+    ensures { IfOk result (λ left. AllZip (StaysTracked setup.now.clients.items) (enumerate_from 0 answers.items) left.items) }
+{
+    let mut left = Vec::new(alloc);
+    let mut place = 0;
+    for saved in answers {
+        if is_tracked(setup, place) {
+            left.push(saved)?;
+        } else {
+            left.push(Vec::new(alloc))?;
         }
+        place += 1;
     }
-    answers
+    Ok(left)
 }
 
 /// Whether a client tracks the chain at a place.

@@ -2,6 +2,7 @@
 //! messages are made, and the files of those messages.
 #![tactic(auto)]
 
+mod answer_folders;
 mod file_system;
 mod importing;
 mod left_out;
@@ -9,6 +10,7 @@ mod messaging;
 mod packets;
 mod wanting;
 
+pub use answer_folders::{AnswerFolders, HostFolders};
 pub use file_system::FileSystem;
 pub use importing::{Answers, ImportedText, MadeScript, imported, made};
 pub use messaging::{files_of, lines_of, read_answers, write_files};

@@ -3,6 +3,7 @@ use Rattle.rb_script_types.specs.Script.{IsReadScript, script_view}
 use Rattle.rb_script_read.specs.Work.{little}
 use Rattle.rb_import.specs.Scripts as made
 use Rattle.ibcplan_folders.specs.Files.{IsMadeOf, signatures_of}
+use Rattle.ibcplan_folders.specs.Leavings.{IsLeft}
 use Rattle.ibcplan_folders.proofs.Wholes.{in_part, of_rest, of_seen, part_of}
 use Rattle.ibcplan_folders.proofs.importing.scripted.Goals as goal
 
@@ -17,8 +18,8 @@ returns-in-Ok-clause-script c =
     let script = c.in-Ok.made.script in
     let of_left : IsMadeOf left votes script =
     of_seen left c.signatures_of-signatures.result votes (λ seen. made.IsMadeOf left.setup left.answers seen script) c.signatures_of-signatures.ensures c.in-Ok.ensures.script in
-    of_rest c.args.fleet left c.rounds.left_out c.made_script.result (λ m. m.status) (λ rest m. IsMadeOf rest votes m.script) c.rounds.invariant.whole
-    (part_of c.made_script.result (λ m. m.script) script (IsMadeOf left votes) of_left c.made_script.ensures.script) c.made_script.ensures.status
+    of_rest c.args.fleet left c.rounds.left_out c.made_script.result (λ m. m.status) (λ rest m. IsLeft c.args.fleet rest × IsMadeOf rest votes m.script) c.rounds.invariant.whole
+    (part_of c.made_script.result (λ m. m.script) script (λ s. IsLeft c.args.fleet left × IsMadeOf left votes s) (c.rounds.invariant.left, of_left) c.made_script.ensures.script) c.made_script.ensures.status
 
 pub returns-in-Ok-clause-form : goal.returns-in-Ok-clause-form
 returns-in-Ok-clause-form c =
