@@ -119,7 +119,7 @@ def message_cases():
         ("a setup that is no TOML", ["import", "-", "no"], b"version", b"fault 1001 NotToml at -\n", 1, b"standard input: TOML parse error at line 1, column "),
         ("a script that is no TOML", ["certify", refused, "-"], b"version", b"fault 1001 NotToml at -\n", 1, f"{refused}: TOML parse error at line ".encode()),
         ("a certificate that is no TOML", ["certify", smallest, "-"], b"version", b"fault 1001 NotToml at -\n", 1, b"standard input: TOML parse error at line 1, "),
-        ("a script with another version", ["certify", str(ROWS / "version_9"), "-"], b"version = 9", b"fault 1005 BadVersion at version\n", 1, b"version_9: the version of a script, and of the setup of follow, is 1, 2 or 3, of a setup of import and of a certificate 1 ("),
+        ("a script with another version", ["certify", str(ROWS / "version_9"), "-"], b"version = 9", b"fault 1005 BadVersion at version\n", 1, b"version_9: the version of a script, and of the setup of follow, is from 1 to 4, of a setup of import and of a certificate 1 ("),
         ("a certificate with another version", ["certify", smallest, "-"], b"version = 9", b"fault 1005 BadVersion at version\n", 1, b"standard input: "),
     ):
         yield Case(what, words, given, b"", error, status, named=(named,))

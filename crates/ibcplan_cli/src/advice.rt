@@ -24,7 +24,7 @@ pub fn advice_for(name: FaultName, path: &str) -> &'static str {
         FaultName::MissingKey => missing_at(path),
         FaultName::WrongType => type_at(path),
         FaultName::BadVersion =>
-            "the version of a script, and of the setup of follow, is 1, 2 or 3, of a setup of import and of a certificate 1",
+            "the version of a script, and of the setup of follow, is from 1 to 4, of a setup of import and of a certificate 1",
         FaultName::OutOfRange | FaultName::BadLimit | FaultName::BadFee => range_at(path),
         FaultName::BadIdentifier => {
             "an identifier has 1 to 64 letters, digits and . _ + - # [ ] < >, a set's name at most 32, a port or a channel up to 128"
@@ -45,7 +45,7 @@ pub fn advice_for(name: FaultName, path: &str) -> &'static str {
         FaultName::TooManyObjects => {
             "there may be 64 chains, 256 clients, 256 paths and 500 turns; the setup of follow has no turns, which come on standard input"
         }
-        FaultName::TooManyEvents => "there may be 200,000 goals, events and settlements in all",
+        FaultName::TooManyEvents => "there may be 200,000 windows of hosts, goals, events and settlements in all",
         FaultName::UnknownSetName => {
             "no set event before this one gives the chain a set of this name: sets stand before the headers and consensus states that name them"
         }

@@ -38,8 +38,8 @@ ended by a line ---. The answer, the turn's report or its fault, is written at o
 with a line --- after it; with --json it is an object on a line, and the first line
 tells the program and its format. A document with a fault changes nothing. The
 answers are the report that plan writes for the script of the setup and the turns.
-In version 3 heights and packets that no plan needs are forgotten, and an event of
-one is a fault (1033): leave it out.
+From version 3 on heights and packets that no plan needs are forgotten, and an event
+of one is a fault (1033): leave it out.
 
 With --journal each turn is on the disk before it is answered. The file is a script
 that plan reads. Where it has turns their answers come first, and then those to new

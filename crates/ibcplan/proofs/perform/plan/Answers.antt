@@ -1,13 +1,14 @@
-use Rattle.std.proofs.Common.{◌-◌, ◌^◌, min, sym, ap, ◌∙◌}
-use Rattle.ibcplan.specs.Status.{plan_status, refused_events}
+use Rattle.std.proofs.Common.{refl}
 use Rattle.ibcplan.proofs.perform.plan.Goals as goal
+use Rattle.rb_super_turn.specs.Views.{report_view}
 
 -- the report that was written is the one that is looked at
-pub returns-in-Ok-report_over-clause-done : goal.returns-in-Ok-report_over-clause-done
-returns-in-Ok-report_over-clause-done g c =
-    let written = rw c.bytes.ensures at c.in-Ok-report_over.ensures.report in
+pub returns-in-Ok-write_report_of-clause-done : goal.returns-in-Ok-write_report_of-clause-done
+returns-in-Ok-write_report_of-clause-done g c =
+    let writes = c.in-Ok-write_report_of.ensures.report in
     record {
-      writes = written.writes;
-      ends = c.plan_status.ensures ∙ ap (plan_status c.args.is_strict) (sym written.this);
-      counts = c.refused_events.ensures ∙ ap (λ report. min (refused_events report) (2 ^ 64 - 1)) (sym written.this);
+      report = report_view c.in-Ok-write_report_of.report;
+      writes = record { kept = writes.kept; reported = writes.reported; chains = refl; paths = refl; written = writes.written };
+      ends = c.plan_status.ensures;
+      counts = c.refused_events.ensures;
     }
