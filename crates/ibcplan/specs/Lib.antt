@@ -1,3 +1,4 @@
 pub mod Status
 pub mod Forms
 pub mod Sendings
+pub mod Headline

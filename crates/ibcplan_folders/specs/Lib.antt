@@ -3,5 +3,6 @@ pub mod Files
 pub mod Folders
 pub mod Fleets
 pub mod Leavings
+pub mod Memory
 pub mod Messages
 pub mod Packets

@@ -1,5 +1,5 @@
 -- The messages of updates, by the answers of a folder (ICS 7, `Header`).
-use Rattle.std.specs.Prelude.{◌≡◌, ◌==◌, ℕ, Bool, true, List, Vec}
+use Rattle.std.specs.Prelude.{◌≡◌, ◌==◌, ℕ, Bool, true, List, Option, Vec}
 use Rattle.std.specs.List.{AllZip, enumerate_from, list_any}
 use Rattle.std.specs.Global.{Global}
 use Rattle.rb_import_check.specs.declared.chain.SeenChain.{SeenChain}
@@ -8,7 +8,7 @@ use Rattle.rb_messages.specs.Messages.{AreFilesOf}
 use Rattle.rb_messages.specs.Sources.{AreTold}
 use Rattle.rb_messages.specs.declared.message.MessageFile.{MessageFile}
 use Rattle.rb_messages.specs.declared.update.PlannedUpdate.{PlannedUpdate}
-use Rattle.ibcplan_folders.specs.Folders.{AnswerFile, AreAnswersIn}
+use Rattle.ibcplan_folders.specs.Folders.{AnswerFile, AreAnswersIn, OfKnown}
 use Rattle.ibcplan_folders.specs.declared.importing.Votes.TheVariants.{Kept}
 
 -- whether one of the updates is of the chain at a place
@@ -27,3 +27,9 @@ pub record AreMessagesBy (chains : List (List ℕ)) (answers : List (Vec Saved G
   pub seen : List SeenChain
   pub told : AreTold chains answers seen
   pub messages : AreFilesOf chains seen updates files
+
+-- and the answers are what the files of the folders of these chains tell, where files are known
+pub record AreMessagesIn (known : Option (List AnswerFile)) (chains : List (List ℕ)) (updates : List PlannedUpdate) (messages : List MessageFile) : Type 0 where
+  pub answers : List (Vec Saved Global)
+  pub answers_are : OfKnown known (λ files. AreAnswersOn files updates chains answers)
+  pub messages_are : AreMessagesBy chains answers updates messages

@@ -243,7 +243,9 @@ fn refused<'a>(text: Result<String, AllocError>) -> ProgramError<'a> {
 }
 
 /// A setup without answers.
-fn without_answers(alloc: Global, setup: Setup) -> Fleet {
+fn without_answers(alloc: Global, setup: Setup) -> Fleet
+    ensures { result.setup ≡ setup }
+{
     let answers = SavedAnswers {
         chains: Vec::new(alloc),
         clients: Vec::new(alloc),
@@ -283,13 +285,14 @@ fn with_chains<'a, F: AnswerFolders>(
 {
     let mut fleet = fleet;
     let mut failures = Vec::new(files.alloc());
-    fleet.answers.chains = chain_answers(
+    let chains = chain_answers(
         files,
         fleet.setup.chains.as_slice(),
         &fleet.setup,
         answers,
         &mut failures,
     )?;
+    fleet.answers.chains = chains;
     without_all(files.alloc(), fleet, failures, left_out)
 }
 
@@ -307,13 +310,14 @@ fn with_clients<'a, F: AnswerFolders>(
 {
     let mut fleet = fleet;
     let mut failures = Vec::new(files.alloc());
-    fleet.answers.clients = client_answers(
+    let clients = client_answers(
         files,
         fleet.setup.chains.as_slice(),
         fleet.setup.clients.as_slice(),
         answers,
         &mut failures,
     )?;
+    fleet.answers.clients = clients;
     without_all(files.alloc(), fleet, failures, left_out)
 }
 
@@ -333,12 +337,8 @@ fn with_paths<'a, F: AnswerFolders>(
 {
     let mut fleet = fleet;
     let mut failures = Vec::new(files.alloc());
-    fleet.answers.paths = path_answers(
-        files,
-        fleet.setup.paths.as_slice(),
-        answers,
-        &mut failures,
-    )?;
+    let paths = path_answers(files, fleet.setup.paths.as_slice(), answers, &mut failures)?;
+    fleet.answers.paths = paths;
     without_all(files.alloc(), fleet, failures, left_out)
 }
 

@@ -1,0 +1,11 @@
+//! What is written of what a turn sends.
+use rb_messages::MessageFile;
+use rb_sending::TransactionFile;
+
+/// The files of the messages of updates and those of transactions, and the shell file that sends them.
+#[derive(Drop)]
+pub struct Parcel {
+    pub messages: Vec<MessageFile>,
+    pub transactions: Vec<TransactionFile>,
+    pub shell: String,
+}
