@@ -1,13 +1,32 @@
 -- Files in memory are the known ones.
-use Rattle.std.proofs.Common.{◌≡◌, ℕ, List, [], ◌∷◌, Bool, true, false, cond, map, filter, refl, sym, ap, ◌∙◌}
+use Rattle.std.proofs.Common.{◌≡◌, ℕ, ◌+◌, ◌<◌, List, [], ◌∷◌, ◌++◌, get_or, length, take, Bool, true, false, cond, map, filter, refl, sym, ap, ◌∙◌}
 use Rattle.std.specs.Prelude.{◌&&◌, Option, Some, None, find, option_map, string_bytes}
 use Rattle.std.specs.Str.{bytes_eq}
-use Rattle.rb_import_setup.proofs.RestsLemmas.{passed, viewed}
+use Rattle.std.proofs.lemmas.List.{map_push}
+use Rattle.std.proofs.lemmas.List.Elements.{filter_more}
 use Rattle.ibcplan_folders.specs.Folders.{AnswerFile, content, names_in}
 use Rattle.ibcplan_folders.specs.Memory.{is_at, is_in, known_file, known_files}
 use Rattle.ibcplan_folders.specs.declared.memory_folders.MemoryFile.{MemoryFile}
 
-pub ruleset naming = (passed, viewed)
+append_nil : {A : Type 0} (xs : List A) → xs ++ [] ≡ xs
+append_nil [] = refl
+append_nil (x ∷ xs) = ap (λ ys. x ∷ ys) (append_nil xs)
+
+more : {X : Type 0} (q : X → Bool) (xs : List X) (i : ℕ) (x : X) (b : Bool) → i < length xs → x ≡ get_or xs i x → q x ≡ b → filter q (take (i + 1) xs) ≡ filter q (take i xs) ++ cond b (x ∷ []) []
+more q xs i x b lt is pass =
+    filter_more q xs i x lt ∙ ap (λ y. filter q (take i xs) ++ cond (q y) (y ∷ []) []) (sym is) ∙ ap (λ c. filter q (take i xs) ++ cond c (x ∷ []) []) pass
+
+-- the names of those that pass a test, where the next one does, and where it doesn't
+pub one_named : {X Y Z : Type 0} (v : Z → Y) (q : X → Bool) (h : X → Y) (done : List Z) (z : Z) (xs : List X) (i : ℕ) (x : X) → i < length xs → x ≡ get_or xs i x → q x ≡ true → v z ≡ h x
+    → map v done ≡ map h (filter q (take i xs)) → map v (done ++ z ∷ []) ≡ map h (filter q (take (i + 1) xs))
+one_named v q h done z xs i x lt is pass so was =
+    map_push v done z ∙ ap (λ l. l ++ v z ∷ []) was ∙ ap (λ y. map h (filter q (take i xs)) ++ y ∷ []) so ∙ sym (map_push h (filter q (take i xs)) x) ∙ sym (ap (map h) (more q xs i x true lt is pass))
+
+pub none_named : {X Y Z : Type 0} (v : Z → Y) (q : X → Bool) (h : X → Y) (done : List Z) (xs : List X) (i : ℕ) (x : X) → i < length xs → x ≡ get_or xs i x → q x ≡ false
+    → map v done ≡ map h (filter q (take i xs)) → map v done ≡ map h (filter q (take (i + 1) xs))
+none_named v q h done xs i x lt is fail was = was ∙ sym (ap (map h) (more q xs i x false lt is fail ∙ append_nil (filter q (take i xs))))
+
+pub ruleset naming = (none_named, one_named)
 
 name_of : MemoryFile → List ℕ
 name_of f = string_bytes f.name
