@@ -267,10 +267,10 @@ fn read_fleet<'a, F: AnswerFolders>(
     ensures clients { IfOk result (ClientsHave (AreTold (F.known files.now))) }
     ensures paths { IfOk result (PathsHave (AreTold (F.known files.now))) }
 {
-    let fleet = without_answers(files.alloc(), setup);
-    let fleet = with_chains(files, fleet, answers, left_out)?;
-    let fleet = with_clients(files, fleet, answers, left_out)?;
-    with_paths(files, fleet, answers, left_out)
+    let empty = without_answers(files.alloc(), setup);
+    let chains = with_chains(files, empty, answers, left_out)?;
+    let clients = with_clients(files, chains, answers, left_out)?;
+    with_paths(files, clients, answers, left_out)
 }
 
 /// The fleet with the answers of its chains, without what goes with those that are refused.
