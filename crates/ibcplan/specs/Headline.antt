@@ -6,6 +6,7 @@ use Rattle.rb_import_setup.specs.Senders.{sender_view}
 use Rattle.rb_import_setup.specs.Setups.{Setup, setup_of}
 use Rattle.rb_import_setup.specs.declared.sender.Sender.{Sender}
 use Rattle.rb_messages.specs.declared.update.PlannedUpdate.{PlannedUpdate}
+use Rattle.rb_script_types.specs.declared.config.Config.{Config}
 use Rattle.rb_script_types.specs.Script.{Script, script_view}
 use Rattle.rb_script_types.specs.declared.script.Script.{Script as CodeScript}
 use Rattle.rb_sending.specs.Transactions.{file_view, files_from}
@@ -21,11 +22,11 @@ use Rattle.ibcplan.specs.declared.parcel.Parcel.{Parcel}
 
 -- the files of what a relayer sends: the messages of its updates, by what the files of the folders of their chains tell; the texts of the packet
 -- messages of its batches, with the proofs that the definition of ICS 23 accepts; and the transactions of these
-pub record HasParcel (known : Option (List AnswerFile)) (relayer : Core) (updates : List PlannedUpdate) (batches : List PlannedBatch) (senders : List (Option Sender)) (p : Parcel) : Type 0 where
+pub record HasParcel (known : Option (List AnswerFile)) (config : Config Global) (updates : List PlannedUpdate) (batches : List PlannedBatch) (senders : List (Option Sender)) (p : Parcel) : Type 0 where
   pub packets : List (Vec (Option (String Global)) Global)
-  pub messages_are : AreMessagesIn known relayer.config.chains.items updates p.messages.items
-  pub packets_are : ArePacketTexts known relayer.config senders batches packets
-  pub transactions_are : map file_view p.transactions.items ≡ files_from relayer.config.chains.items senders packets 0 batches p.messages.items
+  pub messages_are : AreMessagesIn known config.chains.items updates p.messages.items
+  pub packets_are : ArePacketTexts known config senders batches packets
+  pub transactions_are : map file_view p.transactions.items ≡ files_from config.chains.items senders packets 0 batches p.messages.items
 
 -- the files of what the last turn of a script sends
 pub record IsParcelOf (known : Option (List AnswerFile)) (script : Script Global) (senders : List (Option Sender)) (p : Parcel) : Type 0 where
@@ -33,7 +34,7 @@ pub record IsParcelOf (known : Option (List AnswerFile)) (script : Script Global
   pub updates : List PlannedUpdate
   pub batches : List PlannedBatch
   pub sending : IsSendingOf script relayer updates batches
-  pub parcel : HasParcel known relayer updates batches senders p
+  pub parcel : HasParcel known relayer.config updates batches senders p
 
 -- who sends to each chain of a setup
 abbrev pub AreSendersOf : List ℕ → List (Option Sender) → Type 0

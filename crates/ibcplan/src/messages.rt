@@ -17,7 +17,7 @@ use rb_base::Gate;
 use rb_core::Core;
 use rb_import_setup::{Sender, is_setup, read_setup};
 use rb_messages::PlannedUpdate;
-use rb_script_types::Script;
+use rb_script_types::{Config, Script};
 use rb_sending::{
     PlannedBatch, TransactionFile, planned_batches, planned_updates, shell_of, transaction_files,
     transactions_shell_of,
@@ -35,10 +35,11 @@ pub struct MessageLines {
     pub status: u8,
 }
 
-/// What is written, if no proof is asked for, and what is told.
+/// What is written, if no proof is asked for, with the shell file that sends it, and what is told.
 #[derive(Drop)]
 pub struct Sent {
     pub parcel: Option<Parcel>,
+    pub shell: String,
     pub told: MessageLines,
 }
 
@@ -68,21 +69,17 @@ pub fn messages_of<'a, R: Host, G: Gate + Sync>(
         Ok(false) => sent_by_text(rt, &files, &input, gate)?,
         Err(_) => return Err(ProgramError::NoMemory),
     };
-    let Sent { parcel, told } = sent;
+    let Sent {
+        parcel,
+        shell,
+        told,
+    } = sent;
     if let Some(parcel) = &parcel {
-        write_parcel(rt, output, parcel)?;
+        let messages = parcel.messages.as_slice();
+        let transactions = parcel.transactions.as_slice();
+        write_files(rt, output, messages, transactions, shell.as_str())?;
     }
     Ok(told)
-}
-
-fn write_parcel<'a, R: Host>(
-    rt: &R,
-    folder: &str,
-    parcel: &Parcel,
-) -> Result<(), ProgramError<'a>> {
-    let messages = parcel.messages.as_slice();
-    let transactions = parcel.transactions.as_slice();
-    write_files(rt, folder, messages, transactions, parcel.shell.as_str())
 }
 
 /// The messages of a setup, by the answers in folders.
@@ -114,11 +111,16 @@ fn told_behind<'a>(
 ) -> Result<Sent, ProgramError<'a>>
     ensures { IfOk result (λ told. told.parcel ≡ sent.parcel) }
 {
-    let Sent { parcel, told } = sent;
+    let Sent {
+        parcel,
+        shell,
+        told,
+    } = sent;
     let behind = told.notices.as_str();
     match format!(in alloc; "{notices}{behind}") {
         Ok(notices) => Ok(Sent {
             parcel,
+            shell,
             told: MessageLines {
                 lines: told.lines,
                 notices,
@@ -141,10 +143,7 @@ fn sent_by_text<'a, R: Threads + Sync, F: AnswerFolders, G: Gate + Sync>(
 }
 
 /// Who sends transactions to each of a setup's chains.
-fn senders_of<'a>(
-    alloc: Global,
-    input: &Input<'a>,
-) -> Result<Vec<Option<Sender>>, ProgramError<'a>>
+fn senders_of<'a>(alloc: Global, input: &Input<'a>) -> Result<Vec<Option<Sender>>, ProgramError<'a>>
     ensures { IfOk result (λ senders. AreSendersOf input.now senders.items) }
 {
     match read_setup(alloc, input.bytes()) {
@@ -196,7 +195,7 @@ fn proved<'a, F: AnswerFolders>(
     sending: &Sending,
     senders: &[Option<Sender>],
 ) -> Result<Sent, ProgramError<'a>>
-    ensures { IfOk result (λ sent. IfSome sent.parcel (HasParcel (F.known files.now) sending.now.relayer sending.now.updates.items sending.now.batches.items senders.now)) }
+    ensures { IfOk result (λ sent. IfSome sent.parcel (HasParcel (F.known files.now) sending.now.relayer.config sending.now.updates.items sending.now.batches.items senders.now)) }
 {
     let config = sending.relayer.config();
     let batches = sending.batches.as_slice();
@@ -208,6 +207,7 @@ fn proved<'a, F: AnswerFolders>(
     if !wanted.is_empty() {
         return Ok(Sent {
             parcel: None,
+            shell: String::new(files.alloc()),
             told: MessageLines {
                 lines: wanted,
                 notices: left_out,
@@ -215,8 +215,10 @@ fn proved<'a, F: AnswerFolders>(
             },
         });
     }
-    let parcel = parcel_of(files, sending, senders, texts.as_slice())?;
-    let lines = lines_for(files.alloc(), sending, &parcel)?;
+    let updates = sending.updates.as_slice();
+    let packets = texts.as_slice();
+    let parcel = parcel_of(files, config, updates, batches, senders, packets)?;
+    let (shell, lines) = told_of(files.alloc(), sending, senders, &parcel)?;
     let status = if left_out.is_empty() {
         status::DONE
     } else {
@@ -224,6 +226,7 @@ fn proved<'a, F: AnswerFolders>(
     };
     Ok(Sent {
         parcel: Some(parcel),
+        shell,
         told: MessageLines {
             lines,
             notices: left_out,
@@ -235,44 +238,43 @@ fn proved<'a, F: AnswerFolders>(
 /// Reads the answers on chains, and makes the messages of updates and the transactions.
 fn parcel_of<'a, F: AnswerFolders>(
     files: &F,
-    sending: &Sending,
+    config: &Config,
+    updates: &[PlannedUpdate],
+    batches: &[PlannedBatch],
     senders: &[Option<Sender>],
     packets: &[Vec<Option<String>>],
 ) -> Result<Parcel, ProgramError<'a>>
-    requires packets { ArePacketTexts (F.known files.now) sending.now.relayer.config senders.now sending.now.batches.items packets.now }
-    ensures { IfOk result (HasParcel (F.known files.now) sending.now.relayer sending.now.updates.items sending.now.batches.items senders.now) }
+    requires { ArePacketTexts (F.known files.now) config.now senders.now batches.now packets.now }
+    ensures { IfOk result (HasParcel (F.known files.now) config.now updates.now batches.now senders.now) }
 {
-    let chains = sending.relayer.config().chains.as_slice();
-    let updates = sending.updates.as_slice();
-    let batches = sending.batches.as_slice();
+    let chains = config.chains.as_slice();
     let answers = read_answers(files, chains, updates)?;
     let messages = files_of(files.alloc(), chains, answers.as_slice(), updates)?;
     let made = messages.as_slice();
-    let Ok(transactions) =
-        transaction_files(files.alloc(), chains, senders, batches, made, packets)
-    else {
-        return Err(ProgramError::NoMemory);
-    };
-    let Ok(shell) = shell_for(files.alloc(), sending, senders, transactions.as_slice()) else {
-        return Err(ProgramError::NoMemory);
-    };
-    Ok(Parcel {
-        messages,
-        transactions,
-        shell,
-    })
+    match transaction_files(files.alloc(), chains, senders, batches, made, packets) {
+        Ok(transactions) => Ok(Parcel {
+            messages,
+            transactions,
+        }),
+        Err(_) => Err(ProgramError::NoMemory),
+    }
 }
 
-/// The lines that tell of what is sent.
-fn lines_for<'a>(
+/// The shell file of what is sent, and the lines that tell of it.
+fn told_of<'a>(
     alloc: Global,
     sending: &Sending,
+    senders: &[Option<Sender>],
     parcel: &Parcel,
-) -> Result<String, ProgramError<'a>> {
+) -> Result<(String, String), ProgramError<'a>> {
     let updates = sending.updates.as_slice();
     let batches = sending.batches.as_slice();
-    match lines_of(alloc, updates, batches, parcel.transactions.as_slice()) {
-        Ok(lines) => Ok(lines),
+    let transactions = parcel.transactions.as_slice();
+    let Ok(shell) = shell_for(alloc, sending, senders, transactions) else {
+        return Err(ProgramError::NoMemory);
+    };
+    match lines_of(alloc, updates, batches, transactions) {
+        Ok(lines) => Ok((shell, lines)),
         Err(_) => Err(ProgramError::NoMemory),
     }
 }

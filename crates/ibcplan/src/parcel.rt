@@ -2,10 +2,9 @@
 use rb_messages::MessageFile;
 use rb_sending::TransactionFile;
 
-/// The files of the messages of updates and those of transactions, and the shell file that sends them.
+/// The files of the messages of updates, and those of transactions.
 #[derive(Drop)]
 pub struct Parcel {
     pub messages: Vec<MessageFile>,
     pub transactions: Vec<TransactionFile>,
-    pub shell: String,
 }
