@@ -66,7 +66,7 @@ impl<'a> LeftOut<'a> {
     ) -> Result<Fleet, ProgramError<'a>>
         ensures fewer { IfOk result (λ rest. object_count rest < object_count fleet) }
         ensures told { OnOk result (is_some self.new.first ≡ true) }
-        ensures left { IfOk result (IsFleetWithout (string_bytes failure.id) fleet) }
+        ensures left { IfOk result (IsFleetWithout (string_bytes failure.entry.id) fleet) }
     {
         let count = object_count(&fleet);
         let Ok(rest) = rest_of(alloc, fleet, &failure, &mut self.lines) else {
