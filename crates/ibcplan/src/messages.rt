@@ -93,11 +93,12 @@ pub fn sent_by_setup<'a, R: Threads + Sync, F: AnswerFolders, G: Gate + Sync>(
     ensures { IfOk result (λ sent. IfSome sent.parcel (AreMessagesOf (F.known files.now) input.now answers.entry)) }
 {
     let senders = senders_of(files.alloc(), input)?;
+    let imported = made(files, input, answers)?;
     let MadeScript {
         script,
         notices,
         status,
-    } = made(files, input, answers)?;
+    } = imported;
     let sent = sent_by(rt, files, script, senders.as_slice(), gate)?;
     told_behind(files.alloc(), notices.as_str(), status, sent)
 }
