@@ -29,4 +29,4 @@ fleet_left known bytes ids f g left is = record {
 pub made_by : {E : Type 0} (known : Option (List AnswerFile)) (bytes : List ℕ) (signatures : Signatures) (f : Fleet) (r : Result MadeScript E) → IsFleetOf known bytes f
     → IfOk r (IsMadeOfLeft f signatures) → IfOk r (λ m. IsMadeBy known bytes signatures m.script)
 made_by known bytes signatures f (Err e) is made = tt
-made_by known bytes signatures f (Ok m) is (rest, whole, (ids, left), made) = record { fleet = rest; is_fleet = fleet_left known bytes ids f rest left is; is_made = made }
+made_by known bytes signatures f (Ok m) is (rest, whole, ((ids, left), made)) = record { fleet = rest; is_fleet = fleet_left known bytes ids f rest left is; is_made = made }

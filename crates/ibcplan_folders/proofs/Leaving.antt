@@ -37,7 +37,7 @@ zipped_where : {A B : Type 0} (R S : A → B → Type 0) (p : A → Bool) (xs : 
 zipped_where R S p [] [] imp all = tt
 zipped_where R S p [] (y ∷ ys) imp all = absurd all
 zipped_where R S p (x ∷ xs) [] imp all = absurd all
-zipped_where R S p (x ∷ xs) (y ∷ ys) imp all = where_one S (p x) x y (filter p xs) (map p xs) ys (λ yes. imp x y yes all.0) (zipped_where R S p xs ys imp all.1)
+zipped_where R S p (x ∷ xs) (y ∷ ys) imp all = where_one S (p x) x y (filter p xs) (map p xs) ys (λ holds. imp x y holds all.0) (zipped_where R S p xs ys imp all.1)
 
 mapped : {A B C : Type 0} (f : A → B) (Q : B → C → Type 0) (xs : List A) (ys : List C) → AllZip (λ x. Q (f x)) xs ys → AllZip Q (map f xs) ys
 mapped f Q [] [] all = tt
@@ -57,13 +57,13 @@ other_id : (name id : List ℕ) → bytes_eq name id ≡ false → name ≡ id �
 other_id name id no same = true≢false (sym ((bytes_eq-Decides name id).1 same) ∙ no)
 
 first_no : (x a b : Bool) → (not x && a && b) ≡ true → x ≡ false
-first_no false a b yes = refl
-first_no true a b yes = absurd (true≢false (sym yes))
+first_no false a b holds = refl
+first_no true a b holds = absurd (true≢false (sym holds))
 
 two_no : (x y : Bool) → (not x && not y) ≡ true → (x ≡ false) × (y ≡ false)
-two_no false false yes = (refl, refl)
-two_no false true yes = absurd (true≢false (sym yes))
-two_no true y yes = absurd (true≢false (sym yes))
+two_no false false holds = (refl, refl)
+two_no false true holds = absurd (true≢false (sym holds))
+two_no true y holds = absurd (true≢false (sym holds))
 
 -- what is said of the answers of one that isn't refused
 abbrev Passes : (ℕ → List ℕ → Vec Saved Global → Type 0) → (ℕ → List ℕ → Vec Saved Global → Type 0) → List ℕ → Type 0
@@ -86,7 +86,7 @@ clients_step T S x f g pass left have =
 
 -- ---- paths
 
-ids_of : List Path → List (List ℕ)
+abbrev ids_of : List Path → List (List ℕ)
 ids_of ps = map (λ p. p.config.id) ps
 
 viewed : (ps : List PathSetup) → ids_of (map path_view ps) ≡ path_ids ps
@@ -112,7 +112,7 @@ paths_step T S x f g pass left have =
 
 -- ---- chains
 
-some_of : Option (List ℕ) → List ℕ
+abbrev some_of : Option (List ℕ) → List ℕ
 some_of (Some id) = id
 some_of None = []
 
@@ -124,14 +124,14 @@ tracked_at x c (d ∷ ds) zero id at = ap (λ (o : Option (List ℕ)). bytes_eq 
 tracked_at x c (d ∷ ds) (suc n) id at = tracked_at x c ds n id at
 
 or_later : (a b : Bool) → b ≡ true → (a || b) ≡ true
-or_later true b yes = refl
-or_later false b yes = yes
+or_later true b holds = refl
+or_later false b holds = holds
 
 -- whether one of those that stay tracks a chain, the first of them or a later one
 tracked_one : {P : Type 0} (b t rest : Bool) → (b ≡ true → t ≡ true → P) → (rest ≡ true → P) → (tracking : Bool) → tracking ≡ cond b (t || rest) rest → tracking ≡ true → P
-tracked_one true true rest here there tracking is yes = here refl refl
-tracked_one true false rest here there tracking is yes = there (sym is ∙ yes)
-tracked_one false t rest here there tracking is yes = there (sym is ∙ yes)
+tracked_one true true rest here there tracking is holds = here refl refl
+tracked_one true false rest here there tracking is holds = there (sym is ∙ holds)
+tracked_one false t rest here there tracking is holds = there (sym is ∙ holds)
 
 stays_tracked : (b : Bool) (c : ClientSetup) (cs : List ClientSetup) (k : ℕ) → is_tracked (cond b (c ∷ cs) cs) k ≡ cond b ((c.tracks == k) || is_tracked cs k) (is_tracked cs k)
 stays_tracked true c cs k = refl
@@ -139,20 +139,20 @@ stays_tracked false c cs k = refl
 
 -- a chain that one of them tracks was tracked before
 tracked_before : (p : ClientSetup → Bool) (cs : List ClientSetup) (k : ℕ) → is_tracked (filter p cs) k ≡ true → is_tracked cs k ≡ true
-tracked_before p [] k yes = yes
-tracked_before p (c ∷ cs) k yes =
+tracked_before p [] k holds = holds
+tracked_before p (c ∷ cs) k holds =
     tracked_one (p c) (c.tracks == k) (is_tracked (filter p cs) k) (λ stays here. ap (λ b. b || is_tracked cs k) here) (λ there. or_later (c.tracks == k) (is_tracked cs k) (tracked_before p cs k there))
-    (is_tracked (filter p (c ∷ cs)) k) (stays_tracked (p c) c (filter p cs) k) yes
+    (is_tracked (filter p (c ∷ cs)) k) (stays_tracked (p c) c (filter p cs) k) holds
 
 -- and has another identifier
 tracked_other : (x : List ℕ) (chains : List (List ℕ)) (cs : List ClientSetup) (k : ℕ) (id : List ℕ) → slice_get chains k ≡ Some id
     → is_tracked (filter (client_stays chains x) cs) k ≡ true → bytes_eq id x ≡ false
-tracked_other x chains [] k id at yes = absurd (true≢false (sym yes))
-tracked_other x chains (c ∷ cs) k id at yes =
+tracked_other x chains [] k id at holds = absurd (true≢false (sym holds))
+tracked_other x chains (c ∷ cs) k id at holds =
     tracked_one (client_stays chains x c) (c.tracks == k) (is_tracked (filter (client_stays chains x) cs) k)
     (λ stays here. sym (tracked_at x c chains c.tracks id (ap (slice_get chains) (eqb-true c.tracks k here) ∙ at)) ∙ (two_no (bytes_eq c.id x) (tracks_chain chains x c) stays).1)
     (λ there. tracked_other x chains cs k id at there)
-    (is_tracked (filter (client_stays chains x) (c ∷ cs)) k) (stays_tracked (client_stays chains x c) c (filter (client_stays chains x) cs) k) yes
+    (is_tracked (filter (client_stays chains x) (c ∷ cs)) k) (stays_tracked (client_stays chains x c) c (filter (client_stays chains x) cs) k) holds
 
 chains_each : (full : List (List ℕ)) (n : ℕ) (ids : List (List ℕ)) (olds news : List (Vec Saved Global)) (P Q : ℕ × List ℕ → Vec Saved Global → Type 0)
     (R : ℕ × Vec Saved Global → Vec Saved Global → Type 0) → ((k : ℕ) → slice_get ids k ≡ slice_get full (n + k))
@@ -177,8 +177,8 @@ chains_step T S x f g pass left have =
     let P = λ (p : ℕ × List ℕ) (saved : Vec Saved Global). is_tracked cs p.0 ≡ true → T 0 p.1 saved in
     let Q = λ (p : ℕ × List ℕ) (saved : Vec Saved Global). is_tracked rest p.0 ≡ true → S 0 p.1 saved in
     let one : (k : ℕ) (id : List ℕ) (old new : Vec Saved Global) → slice_get chains k ≡ Some id → P (k, id) old → StaysTracked rest (k, old) new → Q (k, id) new =
-    λ k id old new at had stays yes. subst (λ (saved : Vec Saved Global). S 0 id saved) (sym (stays yes))
-    (pass 0 id old (other_id id x (tracked_other x chains cs k id at yes)) (had (tracked_before (client_stays chains x) cs k yes))) in
+    λ k id old new at had stays holds. subst (λ (saved : Vec Saved Global). S 0 id saved) (sym (stays holds))
+    (pass 0 id old (other_id id x (tracked_other x chains cs k id at holds)) (had (tracked_before (client_stays chains x) cs k holds))) in
     let kept : AllZip (StaysTracked rest) (enumerate_from 0 f.answers.chains.items) g.answers.chains.items =
     subst (λ (clients : List ClientSetup). AllZip (StaysTracked clients) (enumerate_from 0 f.answers.chains.items) g.answers.chains.items) left.setup.clients left.chains in
     let same : (k : ℕ) → slice_get chains k ≡ slice_get chains (0 + k) = λ k. let there : k ≡ 0 + k = omega arith in ap (slice_get chains) there in
@@ -202,7 +202,7 @@ stay T x since id saved other told = told
 
 -- where nothing is left that was refused
 chains_last : (T : ℕ → List ℕ → Vec Saved Global → Type 0) (f : Fleet) → ChainsHave (OrFailed T []) f → ChainsHave T f
-chains_last T f = zipped_imp _ _ (enumerate_from 0 f.setup.chains.items) f.answers.chains.items (λ p saved had yes. last T 0 p.1 saved (had yes))
+chains_last T f = zipped_imp _ _ (enumerate_from 0 f.setup.chains.items) f.answers.chains.items (λ p saved had holds. last T 0 p.1 saved (had holds))
 
 clients_last : (T : ℕ → List ℕ → Vec Saved Global → Type 0) (f : Fleet) → ClientsHave (OrFailed T []) f → ClientsHave T f
 clients_last T f = zipped_imp _ _ f.setup.clients.items f.answers.clients.items (λ c saved had. (had.0, had.1, last T had.0 c.id saved had.2))
@@ -289,7 +289,7 @@ pub chains_more : (T : ℕ → List ℕ → Vec Saved Global → Type 0) (client
 chains_more T clients xs i x ys zs y old new more lt is grown one all =
     subst (AllZip (ChainHas (OrFailed T new) clients) (take (i + 1) (enumerate_from 0 xs))) (sym more)
     (placed_more (ChainHas (OrFailed T new) clients) xs i x ys y lt is one
-    (zipped_imp (ChainHas (OrFailed T old) clients) (ChainHas (OrFailed T new) clients) (take i (enumerate_from 0 xs)) ys (λ p saved had yes. still_failed T old new 0 p.1 saved grown (had yes)) all))
+    (zipped_imp (ChainHas (OrFailed T old) clients) (ChainHas (OrFailed T new) clients) (take i (enumerate_from 0 xs)) ys (λ p saved had holds. still_failed T old new 0 p.1 saved grown (had holds)) all))
 
 pub clients_more : (T : ℕ → List ℕ → Vec Saved Global → Type 0) (chains : List (List ℕ)) (xs : List ClientSetup) (i : ℕ) (x : ClientSetup) (ys zs : List (Vec Saved Global)) (y : Vec Saved Global) (old new : List (List ℕ))
     → zs ≡ ys ++ y ∷ [] → i < length xs → x ≡ get_or xs i x → HasMore old new → ClientHas (OrFailed T new) chains x y
@@ -323,3 +323,46 @@ if_ok P Q (Err e) imp is = tt
 pub if_ok_two : {T E : Type 0} (P Q R : T → Type 0) (r : Result T E) → ((x : T) → P x → Q x → R x) → IfOk r P → IfOk r Q → IfOk r R
 if_ok_two P Q R (Ok x) imp p q = imp x p q
 if_ok_two P Q R (Err e) imp p q = tt
+
+-- ---- a list and its places, an element more
+
+length_more : {A : Type 0} (xs : List A) (x : A) → length (xs ++ x ∷ []) ≡ length xs + 1
+length_more [] x = omega arith
+length_more (y ∷ xs) x = let more = length_more xs x in omega (arith, more)
+
+places_push : {A B : Type 0} (R : ℕ × A → B → Type 0) (n : ℕ) (xs : List A) (ys : List B) (x : A) (y : B) → AllZip R (enumerate_from n xs) ys → R (n + length xs, x) y
+    → AllZip R (enumerate_from n (xs ++ x ∷ [])) (ys ++ y ∷ [])
+places_push R n [] [] x y all one = let here : n + 0 ≡ n = omega arith in (subst (λ (k : ℕ). R (k, x) y) here one, tt)
+places_push R n [] (z ∷ ys) x y all one = absurd all
+places_push R n (w ∷ xs) [] x y all one = absurd all
+places_push R n (w ∷ xs) (z ∷ ys) x y all one =
+    let there : n + length (w ∷ xs) ≡ n + 1 + length xs = omega arith in
+    (all.0, places_push R (n + 1) xs ys x y all.1 (subst (λ (k : ℕ). R (k, x) y) there one))
+
+pub tracked_push : (clients : List ClientSetup) (place : ℕ) (xs ys zs : List (Vec Saved Global)) (x y : Vec Saved Global) → zs ≡ ys ++ y ∷ [] → place ≡ length xs
+    → StaysTracked clients (place, x) y → AllZip (StaysTracked clients) (enumerate_from 0 xs) ys → AllZip (StaysTracked clients) (enumerate_from 0 (xs ++ x ∷ [])) zs
+tracked_push clients place xs ys zs x y more at one all =
+    let here : place ≡ 0 + length xs = omega (arith, at) in
+    subst (AllZip (StaysTracked clients) (enumerate_from 0 (xs ++ x ∷ []))) (sym more)
+    (places_push (StaysTracked clients) 0 xs ys x y all (subst (λ (k : ℕ). StaysTracked clients (k, x) y) here one))
+
+pub untracked : (clients : List ClientSetup) (place : ℕ) (x y : Vec Saved Global) → is_tracked clients place ≡ false → StaysTracked clients (place, x) y
+untracked clients place x y no = λ holds. absurd (true≢false (sym holds ∙ no))
+
+-- ---- what is refused is among the failures
+
+among_last : (ids : List (List ℕ)) (id : List ℕ) → IsAmong (ids ++ id ∷ []) id
+among_last [] id = inl refl
+among_last (x ∷ ids) id = inr (among_last ids id)
+
+pub refused_last : (T : ℕ → List ℕ → Vec Saved Global → Type 0) (old new : List Failure) (x : Failure) (since : ℕ) (id : List ℕ) (saved : Vec Saved Global) → new ≡ old ++ x ∷ [] → string_bytes x.id ≡ id
+    → OrFailed T (failed new) since id saved
+refused_last T old new x since id saved more is =
+    let ids : failed new ≡ failed old ++ id ∷ [] = ap failed more ∙ map_push (λ (y : Failure). string_bytes y.id) old x ∙ ap (λ (i : List ℕ). failed old ++ i ∷ []) is in
+    inr (subst (λ (all : List (List ℕ)). IsAmong all id) (sym ids) (among_last (failed old) id))
+
+pub refused_more : (old new : List Failure) (x : Failure) → new ≡ old ++ x ∷ [] → HasMore (failed old) (failed new)
+refused_more old new x more = (string_bytes x.id ∷ [], ap failed more ∙ map_push (λ (y : Failure). string_bytes y.id) old x)
+
+pub place_more : {A : Type 0} (place : ℕ) (xs : List A) (x : A) → place ≡ length xs → place + 1 ≡ length (xs ++ x ∷ [])
+place_more place xs x at = let more = length_more xs x in omega (arith, at, more)

@@ -28,7 +28,7 @@ none_named v q h done xs i x lt is fail was = was ∙ sym (ap (map h) (more q xs
 
 pub ruleset naming = (none_named, one_named)
 
-name_of : MemoryFile → List ℕ
+abbrev name_of : MemoryFile → List ℕ
 name_of f = string_bytes f.name
 
 named_one : (b : Bool) (f : MemoryFile) (fs : List MemoryFile) (gs : List AnswerFile) → map name_of fs ≡ map (λ (g : AnswerFile). g.name) gs
@@ -44,7 +44,7 @@ found_one : (b : Bool) (f : MemoryFile) (o : Option MemoryFile) (p : Option Answ
 found_one true f o p same = refl
 found_one false f o p same = same
 
-bytes_of : Option MemoryFile → Option (List ℕ)
+abbrev pub bytes_of : Option MemoryFile → Option (List ℕ)
 bytes_of o = option_map (λ (g : AnswerFile). g.bytes) (option_map known_file o)
 
 found : (folder name : List ℕ) (files : List MemoryFile) → option_map known_file (find (is_at folder name) files) ≡ find (λ (g : AnswerFile). bytes_eq g.folder folder && bytes_eq g.name name) (known_files files)

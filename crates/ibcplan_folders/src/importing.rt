@@ -350,7 +350,7 @@ fn without_all<'a>(
     failures: Vec<Failure<'a>>,
     left_out: &mut LeftOut<'a>,
 ) -> Result<Fleet, ProgramError<'a>>
-    ensures { IfOk result (IsLeftOf (failed failures.items) fleet) }
+    ensures { IfOk result (IsLeftOf (failed failures.entry.items) fleet) }
 {
     let mut fleet = fleet;
     for failure in failures {

@@ -164,14 +164,18 @@ fn tracked(
     let mut left = Vec::new(alloc);
     let mut place = 0;
     for saved in answers {
-        if is_tracked(setup, place) {
-            left.push(saved)?;
-        } else {
-            left.push(Vec::new(alloc))?;
-        }
+        let stays = is_tracked(setup, place);
+        left.push(kept(alloc, saved, stays))?;
         place += 1;
     }
     Ok(left)
+}
+
+/// Answers that stay, else none.
+fn kept(alloc: Global, saved: Vec<Saved>, stays: bool) -> Vec<Saved>
+    ensures { stays ≡ true → result ≡ saved }
+{
+    if stays { saved } else { Vec::new(alloc) }
 }
 
 /// Whether a client tracks the chain at a place.
