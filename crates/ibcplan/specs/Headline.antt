@@ -6,6 +6,7 @@ use Rattle.rb_import_setup.specs.Senders.{sender_view}
 use Rattle.rb_import_setup.specs.Setups.{Setup, setup_of}
 use Rattle.rb_import_setup.specs.declared.sender.Sender.{Sender}
 use Rattle.rb_messages.specs.declared.update.PlannedUpdate.{PlannedUpdate}
+use Rattle.rb_script_types.specs.Config.{config_view}
 use Rattle.rb_script_types.specs.declared.config.Config.{Config}
 use Rattle.rb_script_types.specs.Script.{Script, script_view}
 use Rattle.rb_script_types.specs.declared.script.Script.{Script as CodeScript}
@@ -28,13 +29,19 @@ pub record HasParcel (known : Option (List AnswerFile)) (config : Config Global)
   pub packets_are : ArePacketTexts known config senders batches packets
   pub transactions_are : map file_view p.transactions.items ≡ files_from config.chains.items senders packets 0 batches p.messages.items
 
+-- so it is by the configuration of the relayer
+pub record IsSentBy (known : Option (List AnswerFile)) (relayer : Core) (updates : List PlannedUpdate) (batches : List PlannedBatch) (senders : List (Option Sender)) (p : Parcel) : Type 0 where
+  pub config : Config Global
+  pub config_is : config_view config ≡ relayer.config
+  pub parcel : HasParcel known config updates batches senders p
+
 -- the files of what the last turn of a script sends
 pub record IsParcelOf (known : Option (List AnswerFile)) (script : Script Global) (senders : List (Option Sender)) (p : Parcel) : Type 0 where
   pub relayer : Core
   pub updates : List PlannedUpdate
   pub batches : List PlannedBatch
   pub sending : IsSendingOf script relayer updates batches
-  pub parcel : HasParcel known relayer.config updates batches senders p
+  pub sent : IsSentBy known relayer updates batches senders p
 
 -- who sends to each chain of a setup
 abbrev pub AreSendersOf : List ℕ → List (Option Sender) → Type 0

@@ -1,7 +1,7 @@
 //! The client messages and the transactions of a script's last turn, or of a setup's, made of the answers of nodes.
 ghost use Rattle.std.specs.Prelude.{◌≡◌, IfOk, IfSome};
 ghost use Rattle.rb_script_types.specs.Script.{script_view, IsReadScript};
-ghost use Rattle.ibcplan.specs.Headline.{AreMessagesOf, AreSendersOf, HasParcel, IsParcelOf};
+ghost use Rattle.ibcplan.specs.Headline.{AreMessagesOf, AreSendersOf, HasParcel, IsParcelOf, IsSentBy};
 ghost use Rattle.ibcplan.specs.Sendings.{IsSendingOf};
 ghost use Rattle.ibcplan_folders.specs.Packets.{ArePacketTexts};
 
@@ -191,12 +191,13 @@ fn sending_of<R: Threads + Sync, G: Gate + Sync>(
 }
 
 /// Judges the proofs of packet messages; where some aren't there, they are asked for, and else the messages are made.
+#[tactic(auto, using(crate::proofs::Parcels::sending))]
 fn proved<'a, F: AnswerFolders>(
     files: &F,
     sending: &Sending,
     senders: &[Option<Sender>],
 ) -> Result<Sent, ProgramError<'a>>
-    ensures { IfOk result (λ sent. IfSome sent.parcel (HasParcel (F.known files.now) sending.now.relayer.config sending.now.updates.items sending.now.batches.items senders.now)) }
+    ensures { IfOk result (λ sent. IfSome sent.parcel (IsSentBy (F.known files.now) sending.now.relayer sending.now.updates.items sending.now.batches.items senders.now)) }
 {
     let config = sending.relayer.config();
     let batches = sending.batches.as_slice();
