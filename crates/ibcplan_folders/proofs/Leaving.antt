@@ -54,7 +54,7 @@ unmapped f Q (x ∷ xs) (y ∷ ys) all = (all.0, unmapped f Q xs ys all.1)
 -- ---- who stays has another identifier
 
 other_id : (name id : List ℕ) → bytes_eq name id ≡ false → name ≡ id → ⊥
-other_id name id no same = true≢false (sym ((bytes_eq-Decides name id).1 same) ∙ no)
+other_id name id fails same = true≢false (sym ((bytes_eq-Decides name id).1 same) ∙ fails)
 
 first_no : (x a b : Bool) → (not x && a && b) ≡ true → x ≡ false
 first_no false a b holds = refl
@@ -347,7 +347,7 @@ tracked_push clients place xs ys zs x y more at one all =
     (places_push (StaysTracked clients) 0 xs ys x y all (subst (λ (k : ℕ). StaysTracked clients (k, x) y) here one))
 
 pub untracked : (clients : List ClientSetup) (place : ℕ) (x y : Vec Saved Global) → is_tracked clients place ≡ false → StaysTracked clients (place, x) y
-untracked clients place x y no = λ holds. absurd (true≢false (sym holds ∙ no))
+untracked clients place x y fails = λ holds. absurd (true≢false (sym holds ∙ fails))
 
 -- ---- what is refused is among the failures
 

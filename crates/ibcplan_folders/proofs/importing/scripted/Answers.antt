@@ -1,9 +1,12 @@
-use Rattle.std.specs.Prelude.{◌≡◌, Ok}
+use Rattle.std.proofs.Common.{sym, ◌∙◌}
+use Rattle.std.specs.Prelude.{◌≡◌, Ok, string_bytes}
+use Rattle.std.proofs.lemmas.Bool.{true≢false}
 use Rattle.rb_script_types.specs.Script.{IsReadScript, script_view}
 use Rattle.rb_script_read.specs.Work.{little}
 use Rattle.rb_import.specs.Scripts as made
 use Rattle.ibcplan_folders.specs.Files.{IsMadeOf, signatures_of}
 use Rattle.ibcplan_folders.specs.Leavings.{IsLeft}
+use Rattle.ibcplan_folders.proofs.Leaving.{left_once}
 use Rattle.ibcplan_folders.proofs.Wholes.{in_part, of_rest, of_seen, part_of}
 use Rattle.ibcplan_folders.proofs.importing.scripted.Goals as goal
 
@@ -28,3 +31,12 @@ returns-in-Ok-clause-form c =
 pub returns-in-Ok-clause-little : goal.returns-in-Ok-clause-little
 returns-in-Ok-clause-little c =
     part_of c.made_script.result (λ m. m.script) c.in-Ok.made.script (λ s. little (script_view s).config (script_view s).turns ≡ Ok tt) c.in-Ok.ensures.little c.made_script.ensures.script
+
+pub rounds-preserved : goal.rounds-preserved
+rounds-preserved c =
+    let some = c.in_ok-fleet.ensures.told in
+    record {
+      whole = λ none. absurd (true≢false (sym some ∙ none));
+      left = left_once (string_bytes c.in_ok-failure-in-Err.failure.id) c.args.fleet c.rounds.fleet c.in_ok-fleet.fleet c.rounds.invariant.left c.in_ok-fleet.ensures.left;
+      in_part = λ before. some;
+    }
