@@ -263,11 +263,21 @@ left_once x f g h (ids, left) without = (ids ++ x ∷ [], left_more ids x f g h 
 pub left_none : (f : Fleet) → IsLeft f f
 left_none f = ([], refl)
 
+pub left_first : (x : List ℕ) (f g : Fleet) → IsFleetWithout x f g → IsLeft f g
+left_first x f g without = (x ∷ [], (g, without, refl))
+
+after_left : (ids more : List (List ℕ)) (f g h : Fleet) → IsLeftOf ids f g → IsLeftOf more g h → IsLeftOf (ids ++ more) f h
+after_left [] more f g h left after = subst (λ (q : Fleet). IsLeftOf more q h) (sym left) after
+after_left (x ∷ ids) more f g h (next, without, left) after = (next, without, after_left ids more next g h left after)
+
+pub left_after : (f g h : Fleet) → IsLeft f g → IsLeft g h → IsLeft f h
+left_after f g h (ids, left) (more, after) = (ids ++ more, after_left ids more f g h left after)
+
 pub left_failed : (done : List Failure) (x : Failure) (f g h : Fleet) → IsLeftOf (failed done) f g → IsFleetWithout (string_bytes x.id) g h → IsLeftOf (failed (done ++ x ∷ [])) f h
 left_failed done x f g h left without =
     subst (λ (ids : List (List ℕ)). IsLeftOf ids f h) (sym (map_push (λ (y : Failure). string_bytes y.id) done x)) (left_more (failed done) (string_bytes x.id) f g h left without)
 
-pub ruleset once = (left_none, left_once)
+pub ruleset once = (left_none, left_first, left_once)
 
 pub ruleset more_failed = (left_failed)
 

@@ -1,6 +1,7 @@
 -- What stays of a list, an item more.
-use Rattle.std.proofs.Common.{◌≡◌, ℕ, List, [], ◌∷◌, ◌++◌, get_or, length, Bool, true, false, cond, refl, sym, ap, ◌∙◌}
+use Rattle.std.proofs.Common.{◌≡◌, ◌≤◌, ◌+◌, ℕ, List, [], ◌∷◌, ◌++◌, filter, get_or, length, map, Bool, true, false, cond, refl, sym, ap, ◌∙◌, arith}
 use Rattle.std.specs.List.{items_where_true}
+use Rattle.std.proofs.lemmas.List.{length-map}
 
 none : {X : Type 0} (stay : List Bool) → items_where_true {X = X} stay [] ≡ []
 none [] = refl
@@ -29,3 +30,19 @@ gone stay done xs x place at goes was =
     was ∙ sym (one_more stay xs x ∙ ap (λ b. items_where_true stay xs ++ cond b (x ∷ []) []) (ap (λ n. get_or stay n false) (sym at) ∙ goes) ∙ append_nil (items_where_true stay xs))
 
 pub ruleset leaving = (begun, taken, gone)
+
+one_short : {X : Type 0} (b : Bool) (x : X) (left all : List X) → length left ≤ length all → length (cond b (x ∷ left) left) ≤ length (x ∷ all)
+one_short true x left all short = omega (arith, short)
+one_short false x left all short = omega (arith, short)
+
+short : {X : Type 0} (p : X → Bool) (xs : List X) → length (filter p xs) ≤ length xs
+short p [] = omega arith
+short p (x ∷ xs) = one_short (p x) x (filter p xs) xs (short p xs)
+
+-- of two lists no more is left
+pub not_more : {A B V : Type 0} (p : A → Bool) (q : B → Bool) (view moved : B → V) (xs left : List A) (ys others : List B) → left ≡ filter p xs → map view others ≡ map moved (filter q ys)
+    → length left + length others ≤ length xs + length ys
+not_more p q view moved xs left ys others first second =
+    let one : length left ≡ length (filter p xs) = ap length first in
+    let two : length (map view others) ≡ length (map moved (filter q ys)) = ap length second in
+    omega (arith, one, two, length-map others view, length-map (filter q ys) moved, short p xs, short q ys)

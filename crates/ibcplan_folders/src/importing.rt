@@ -16,13 +16,14 @@ ghost use Rattle.ibcplan_folders.specs.LeftOut.{import_status};
 
 use crate::answer_folders::{AnswerFolders, HostFolders};
 use crate::file_system::FileSystem;
-use crate::left_out::{Failure, Fleet, LeftOut, is_tracked};
+use crate::left_out::{Failure, Failures, Fleet, LeftOut, is_tracked};
 use ibcplan_cli::{Input, ProgramError, shown_text};
 use rb_base::ChainId;
 use rb_import::{Composed, Made, compose, make};
 use rb_import_answers::revision_of;
-use rb_import_check::{ImportError, Saved, SavedAnswers, SavedError, Signatures, read_saved};
+use rb_import_check::{CheckError, Saved, SavedAnswers, SavedError, Signatures, read_saved};
 use rb_import_json::{FieldError, FieldErrorName};
+use rb_import_merge::ImportErrors;
 use rb_import_notices::Notices;
 use rb_import_setup::{ClientSetup, PathSetup, Setup, read_setup};
 use rb_script_types::Script;
@@ -99,8 +100,8 @@ fn fleet_of<'a, F: AnswerFolders>(
     }
 }
 
-/// The text of the script that a fleet makes, without the clients and the paths whose answers are refused. Each round
-/// leaves out one of them, so that it ends.
+/// The text of the script that a fleet makes, without the clients and the paths whose answers are refused. A round leaves
+/// out all of them; each later one the largest client, where the script of the others is too big.
 fn composed<'a>(
     alloc: Global,
     fleet: Fleet,
@@ -115,14 +116,11 @@ fn composed<'a>(
     let mut left_out = left_out;
     'rounds: loop {
         let signatures = signatures_of(source);
-        let failure = match compose(alloc, &fleet.setup, signatures, &fleet.answers) {
+        let failures = match compose(alloc, &fleet.setup, signatures, &fleet.answers) {
             Ok(composed) => return imported_text(alloc, composed, &left_out),
-            Err(error) => failure_of(alloc, &error)?,
+            Err(errors) => failures_of(alloc, &errors, source)?,
         };
-        if source.is_all_or_nothing {
-            return Err(failure.error);
-        }
-        fleet = left_out.without(alloc, fleet, failure)?;
+        fleet = left_out.without_all(alloc, fleet, failures)?;
     }
 }
 
@@ -143,14 +141,11 @@ fn scripted<'a>(
     let mut left_out = left_out;
     'rounds: loop {
         let signatures = signatures_of(source);
-        let failure = match make(alloc, &fleet.setup, signatures, &fleet.answers) {
+        let failures = match make(alloc, &fleet.setup, signatures, &fleet.answers) {
             Ok(made) => return made_script(alloc, made, &left_out),
-            Err(error) => failure_of(alloc, &error)?,
+            Err(errors) => failures_of(alloc, &errors, source)?,
         };
-        if source.is_all_or_nothing {
-            return Err(failure.error);
-        }
-        fleet = left_out.without(alloc, fleet, failure)?;
+        fleet = left_out.without_all(alloc, fleet, failures)?;
     }
 }
 
@@ -212,11 +207,31 @@ fn told<'a>(
     }
 }
 
-/// Of which chain, client or path answers are refused, and why, as texts of its own. The error is one of the whole.
-fn failure_of<'a>(alloc: Global, error: &ImportError<'_>) -> Result<Failure<'a>, ProgramError<'a>> {
-    let ImportError::CheckError(problem) = error else {
+/// Of which chains, clients and paths answers are refused, and why, as texts of their own. The error is one of the whole,
+/// as the first of them is with all or nothing.
+fn failures_of<'a>(
+    alloc: Global,
+    errors: &ImportErrors<'_>,
+    source: Answers<'_>,
+) -> Result<Failures<'a>, ProgramError<'a>> {
+    let ImportErrors::Refused(refusals) = errors else {
         return Err(ProgramError::NoMemory);
     };
+    let first = failure_of(alloc, &refusals.first)?;
+    if source.is_all_or_nothing {
+        return Err(first.error);
+    }
+    let mut others = Vec::new(alloc);
+    for problem in &refusals.others {
+        add(&mut others, failure_of(alloc, problem)?)?;
+    }
+    Ok(Failures { first, others })
+}
+
+fn failure_of<'a>(
+    alloc: Global,
+    problem: &CheckError<'_>,
+) -> Result<Failure<'a>, ProgramError<'a>> {
     let error = refused(format!(in alloc; "{problem}"));
     failure_at(alloc, problem.object, error)
 }

@@ -1,9 +1,9 @@
 //! What is left of a fleet without the clients and the paths whose answers are refused, and the lines that tell of those.
-ghost use Rattle.std.specs.Prelude.{◌≡◌, ◌<◌, ◌==◌, IfOk, OnOk, false, filter, get_or, is_some, string_bytes, true};
+ghost use Rattle.std.specs.Prelude.{◌≡◌, ◌<◌, ◌≤◌, ◌==◌, IfOk, OnOk, false, filter, get_or, is_some, string_bytes, true};
 ghost use Rattle.std.specs.List.{AllZip, enumerate_from, items_where_true, list_any};
 ghost use Rattle.rb_import_setup.specs.Rests.{client_stays};
 ghost use Rattle.ibcplan_folders.specs.LeftOut.{clients_stay, import_status, object_count, paths_stay};
-ghost use Rattle.ibcplan_folders.specs.Leavings.{IsFleetWithout, StaysTracked};
+ghost use Rattle.ibcplan_folders.specs.Leavings.{IsFleetWithout, IsLeft, StaysTracked};
 
 use ibcplan_cli::{ProgramError, status};
 use rb_import_check::{Saved, SavedAnswers};
@@ -22,6 +22,13 @@ pub struct Fleet {
 pub struct Failure<'a> {
     pub id: String,
     pub error: ProgramError<'a>,
+}
+
+/// Some failures, in their order.
+#[derive(Drop)]
+pub struct Failures<'a> {
+    pub first: Failure<'a>,
+    pub others: Vec<Failure<'a>>,
 }
 
 /// The first of the failures for which something is left out, if there is one, and lines that tell of all that is left out.
@@ -83,6 +90,46 @@ impl<'a> LeftOut<'a> {
         self.first = Some(first);
         Ok(rest)
     }
+
+    /// The fleet without what goes with some failures. What goes with the first of two goes with the first alone.
+    #[tactic(auto, using(crate::proofs::Leaving::once))]
+    pub fn without_all(
+        &mut self,
+        alloc: Global,
+        fleet: Fleet,
+        failures: Failures<'a>,
+    ) -> Result<Fleet, ProgramError<'a>>
+        ensures fewer { IfOk result (λ rest. object_count rest < object_count fleet) }
+        ensures told { OnOk result (is_some self.new.first ≡ true) }
+        ensures left { IfOk result (IsLeft fleet) }
+    {
+        let Failures { first, others } = failures;
+        let mut rest = self.without(alloc, fleet, first)?;
+        for failure in others {
+            rest = self.without_also(alloc, rest, failure)?;
+        }
+        Ok(rest)
+    }
+
+    /// The fleet without what goes with another failure, if something is left that does.
+    fn without_also(
+        &mut self,
+        alloc: Global,
+        fleet: Fleet,
+        failure: Failure<'a>,
+    ) -> Result<Fleet, ProgramError<'a>>
+        ensures not_more { IfOk result (λ rest. object_count rest ≤ object_count fleet) }
+        ensures told { OnOk result (self.new.first ≡ self.old.first) }
+        ensures left { IfOk result (IsFleetWithout (string_bytes failure.entry.id) fleet) }
+    {
+        let Ok(rest) = rest_of(alloc, fleet, &failure, &mut self.lines) else {
+            return Err(ProgramError::NoMemory);
+        };
+        if rest.setup.clients.is_empty() {
+            return Err(self.first.take().unwrap_or(failure.error));
+        }
+        Ok(rest)
+    }
 }
 
 /// How many clients and paths a fleet has.
@@ -99,6 +146,7 @@ fn rest_of(
     failure: &Failure<'_>,
     lines: &mut String,
 ) -> Result<Fleet, AllocError>
+    ensures not_more { IfOk result (λ rest. object_count rest ≤ object_count fleet) }
     ensures clients { IfOk result (λ rest. rest.setup.clients.items ≡ filter (client_stays fleet.setup.chains.items (string_bytes failure.now.id)) fleet.setup.clients.items) }
     ensures of_clients { IfOk result (λ rest. rest.answers.clients.items ≡ items_where_true (clients_stay fleet (string_bytes failure.now.id)) fleet.answers.clients.items) }
     ensures left { IfOk result (IsFleetWithout (string_bytes failure.now.id) fleet) }

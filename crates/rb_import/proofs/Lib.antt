@@ -1,5 +1,6 @@
 pub mod Added
 pub mod Lists
+pub mod Readable
 pub mod Tallying
 pub mod Firsts
 pub mod Fitting

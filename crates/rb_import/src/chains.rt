@@ -151,9 +151,15 @@ fn votes_of(alloc: Global, bad: &[u64], signatures: &[Signature]) -> Result<Vec<
 fn vote_at(bad: &[u64], place: usize, flag: BlockIdFlag) -> Vote
     ensures { result ≡ vote_by (is_among bad.now place) flag }
 {
+    vote_by(is_among(bad, place), flag)
+}
+
+/// Whether a place is among these.
+fn is_among(places: &[u64], place: usize) -> bool
+    ensures { result ≡ is_among places.now place }
+{
     let place = place as u64;
-    let is_bad = bad.iter().any(|&other| other == place);
-    vote_by(is_bad, flag)
+    places.iter().any(|&other| other == place)
 }
 
 /// The places of a commit's bad votes.

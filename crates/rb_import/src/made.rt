@@ -83,7 +83,7 @@ fn judge(alloc: Global, script: &Script) -> Result<(), MakeError>
 }
 
 /// The script, as it may be.
-#[tactic(auto, unfolding(crate::specs::Script::script_in))]
+#[tactic(auto, unfolding(crate::specs::Scripts::script_in))]
 fn composed(
     alloc: Global,
     setup: &Setup,

@@ -1,6 +1,6 @@
 //! Whether a script is one that its reader could have given.
-ghost use Rattle.std.specs.Prelude.{◌≡◌, ◌≢◌, ◌+◌, ◌<◌, ◌≤◌, ℕ, IfSome, IsTrue, All, AllPairs, map, sum_by};
-ghost use Rattle.rb_script_types.specs.Limits.{max_entries};
+ghost use Rattle.std.specs.Prelude.{◌≡◌, ◌≢◌, ◌+◌, ◌<◌, ◌≤◌, ℕ, IfSome, IsTrue, All, AllPairs, length, map, sum_by};
+ghost use Rattle.rb_script_types.specs.Limits.{max_entries, max_turns};
 ghost use Rattle.rb_script_types.specs.Script.{IsReadObservation, IsReadScript, IsReadWindow, IsTurnOf, entry_count, script_view, turn_view};
 
 use rb_script_types::{
@@ -57,15 +57,19 @@ fn room_after(room: usize, turn: &Turn) -> Option<usize>
 }
 
 /// Whether a script that has no more events than are allowed is one that its reader could have given.
-#[tactic(auto)]
 pub(crate) fn is_read_script(script: &Script) -> bool
     requires { sum_by entry_count (script_view script.now).turns ≤ max_entries }
     ensures { IsTrue result → IsReadScript (script_view script.now) }
 {
     let config = &script.config;
-    script.turns.len() <= MAX_TURNS
-        && is_config(config)
-        && script.turns.iter().all(|turn| is_turn_of(config, turn))
+    is_config(config) && are_turns(config, script.turns.as_slice())
+}
+
+fn are_turns(config: &Config, turns: &[Turn]) -> bool
+    ensures few { IsTrue result → length turns.now ≤ max_turns }
+    ensures each { IsTrue result → All (IsTurnOf config.now) turns.now }
+{
+    turns.len() <= MAX_TURNS && turns.iter().all(|turn| is_turn_of(config, turn))
 }
 
 fn is_turn_of(config: &Config, turn: &Turn) -> bool

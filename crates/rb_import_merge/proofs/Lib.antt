@@ -20,4 +20,5 @@ pub mod Totalling
 pub mod Watched
 pub mod Counts
 pub mod Writing
+pub mod Judging
 mod Keeping

@@ -1,9 +1,8 @@
 -- Why a setup's answers aren't taken.
-use Rattle.std.proofs.Common.{◌≡◌, ℕ, zero, suc, ◌<◌, List, [], ◌∷◌, get_or, length, filter, Bool, true, false, cond, Option, Some, None, inl, inr, sym, subst, ap, ◌∙◌, arith, refl}
-use Rattle.std.specs.Prelude.{⊤, Any, Contains, IsSomeAnd, nat_le, slice_get}
+use Rattle.std.proofs.Common.{◌≡◌, ℕ, zero, suc, List, [], ◌∷◌, filter, Bool, true, false, cond, Option, Some, None, inl, inr, sym, subst, ◌∙◌, arith}
+use Rattle.std.specs.Prelude.{⊤, Any, Contains, IfSome, IsSomeAnd, nat_le, slice_get}
 use Rattle.std.specs.List.{flat_map}
 use Rattle.std.proofs.lemmas.List.Elements.{All-contains}
-use Rattle.std.proofs.lemmas.Option.{slice_get-get_or}
 use Rattle.rb_import_setup.specs.declared.setup.ClientSetup.{ClientSetup}
 use Rattle.rb_import_setup.specs.declared.setup.PathSetup.{PathSetup}
 use Rattle.rb_import_setup.specs.declared.setup.Setup.{Setup}
@@ -20,55 +19,36 @@ use Rattle.rb_import_check.specs.Chains.{filed, filed_of}
 use Rattle.rb_import_check.specs.Clients.{AreStatesOfFiles, AtRevision, FiledState, HasReason, filed_state, filed_states_in, filed_states_of}
 use Rattle.rb_import_check.specs.Clients.{Refuses as RefusesClient}
 use Rattle.rb_import_check.specs.Errors.{IsToldOf, IsTooBig}
-use Rattle.rb_import_check.specs.Named.{NamesIn, NamesOf}
-use Rattle.rb_import_check.specs.Refusals.{HasReasonOf}
+use Rattle.rb_import_check.specs.Named.{NamesIn}
 use Rattle.rb_import_check.specs.Refusals.{Refuses as RefusesChain}
-use Rattle.rb_import_merge.specs.Named.{NamesOfPath}
 use Rattle.rb_import_merge.specs.Reasons.{HasReasonIn, IsOfAnswers, IsOfChainAnswers, IsOfClientAnswers, IsOfDifference, IsOfPathAnswers, NamesRecord}
-use Rattle.rb_import_merge.specs.Refusals.{HasReasonOfPath, RefusesPath}
-use Rattle.rb_import_merge.specs.Room.{AtEachPlace}
+use Rattle.rb_import_merge.specs.Refusals.{RefusesPath}
 use Rattle.rb_import_merge.specs.Seen.{AreFiledIn, answers_at}
-
-at_place : {X : Type 0} (xs : List X) (i : ℕ) (x : X) → i < length xs → x ≡ get_or xs i x → slice_get xs i ≡ Some x
-at_place xs i x small is = slice_get-get_or xs i x small ∙ ap (λ y. Some y) (sym is)
 
 some_and : {X : Type 0} (P : X → Type 0) (o : Option X) (x : X) → o ≡ Some x → P x → IsSomeAnd o P
 some_and P o x is p = subst (λ (q : Option _). IsSomeAnd q P) (sym is) p
 
--- ---- chains and paths
+-- ---- at a place
 
-pub chain_refused : (setup : Setup) (answers : SavedAnswers) (i : ℕ) (id : List ℕ) (saved : List Saved) (e : ImportError) → i < length setup.chains.items → id ≡ get_or setup.chains.items i id
-    → saved ≡ answers_at answers.chains.items i → IsToldOf id e → HasReasonOf id saved e → NamesOf id saved e → HasReasonIn setup answers e
-chain_refused setup answers i id saved (errors.CheckError p) small is these told reason names =
-    let e : ImportError = errors.CheckError p in
-    inl (i, some_and (λ x. IsOfChainAnswers x (answers_at answers.chains.items i) e) _ id (at_place setup.chains.items i id small is) (subst (λ l. IsOfChainAnswers id l e) these (told, reason, names)))
-chain_refused setup answers i id saved errors.NoMemory small is these told reason names = tt
+pub chain_refused : (setup : Setup) (answers : SavedAnswers) (i : ℕ) (id : List ℕ) (e : ImportError) → slice_get setup.chains.items i ≡ Some id
+    → IsOfChainAnswers id (answers_at answers.chains.items i) e → IsOfAnswers setup answers e
+chain_refused setup answers i id e at refuses = inl (i, some_and (λ x. IsOfChainAnswers x (answers_at answers.chains.items i) e) _ id at refuses)
 
-pub path_refused : (setup : Setup) (answers : SavedAnswers) (i : ℕ) (path : PathSetup) (saved : List Saved) (e : ImportError) → i < length setup.paths.items → path ≡ get_or setup.paths.items i path
-    → saved ≡ answers_at answers.paths.items i → IsToldOf path.config.id e → HasReasonOfPath path saved e → NamesOfPath path saved e → HasReasonIn setup answers e
-path_refused setup answers i path saved (errors.CheckError p) small is these told reason names =
-    let e : ImportError = errors.CheckError p in
-    inr (inr (i, some_and (λ (x : PathSetup). IsOfPathAnswers x (answers_at answers.paths.items i) e) _ path (at_place setup.paths.items i path small is) (subst (λ l. IsOfPathAnswers path l e) these (told, reason, names))))
-path_refused setup answers i path saved errors.NoMemory small is these told reason names = tt
+pub client_refused : (setup : Setup) (answers : SavedAnswers) (i : ℕ) (c : ClientSetup) (e : ImportError) → slice_get setup.clients.items i ≡ Some c
+    → IsOfClientAnswers setup answers c (answers_at answers.clients.items i) e → IsOfAnswers setup answers e
+client_refused setup answers i c e at refuses =
+    inr (inl (i, some_and (λ (x : ClientSetup). IsOfClientAnswers setup answers x (answers_at answers.clients.items i) e) _ c at refuses))
+
+pub path_refused : (setup : Setup) (answers : SavedAnswers) (i : ℕ) (path : PathSetup) (e : ImportError) → slice_get setup.paths.items i ≡ Some path
+    → IsOfPathAnswers path (answers_at answers.paths.items i) e → IsOfAnswers setup answers e
+path_refused setup answers i path e at refuses =
+    inr (inr (i, some_and (λ (x : PathSetup). IsOfPathAnswers x (answers_at answers.paths.items i) e) _ path at refuses))
 
 -- ---- clients
 
-of_client : (setup : Setup) (answers : SavedAnswers) (i : ℕ) (client : ClientSetup) (saved : List Saved) (e : ImportError) → i < length setup.clients.items → client ≡ get_or setup.clients.items i client
-    → saved ≡ answers_at answers.clients.items i → IsOfClientAnswers setup answers client saved e → IsOfAnswers setup answers e
-of_client setup answers i client saved e small is these w =
-    inr (inl (
-      i,
-      some_and (λ (x : ClientSetup). IsOfClientAnswers setup answers x (answers_at answers.clients.items i) e) _ client (at_place setup.clients.items i client small is)
-          (subst (λ l. IsOfClientAnswers setup answers client l e) these w),
-    ))
-
-pub client_refused : (setup : Setup) (answers : SavedAnswers) (i : ℕ) (client : ClientSetup) (tracked : List ℕ) (saved : List Saved) (e : ImportError) → i < length setup.clients.items
-    → client ≡ get_or setup.clients.items i client → slice_get setup.chains.items client.tracks ≡ Some tracked → saved ≡ answers_at answers.clients.items i
-    → IsToldOf client.id e → HasReason client tracked saved e → NamesIn tracked saved e → HasReasonIn setup answers e
-client_refused setup answers i client tracked saved (errors.CheckError p) small is there these told reason names =
-    let e : ImportError = errors.CheckError p in
-    of_client setup answers i client saved e small is these (told, inl (some_and (λ x. HasReason client x saved e × NamesIn x saved e) _ tracked there (reason, names)))
-client_refused setup answers i client tracked saved errors.NoMemory small is there these told reason names = tt
+pub of_its_answers : (setup : Setup) (answers : SavedAnswers) (client : ClientSetup) (tracked : List ℕ) (saved : List Saved) (e : ImportError) → slice_get setup.chains.items client.tracks ≡ Some tracked
+    → IsToldOf client.id e → HasReason client tracked saved e → NamesIn tracked saved e → IsOfClientAnswers setup answers client saved e
+of_its_answers setup answers client tracked saved e there told reason names = (told, inl (some_and (λ x. HasReason client x saved e × NamesIn x saved e) _ tracked there (reason, names)))
 
 any_next : {X : Type 0} (P : X → Type 0) (x : X) (xs : List X) → Any P xs → Any P (x ∷ xs)
 any_next P x xs (k, y, small, is, p) = (suc k, y, omega (arith, small), is, p)
@@ -100,20 +80,16 @@ named_record saved tracked revision chain stored e seen states w =
         let (j, less, there) = All-contains (λ (x : Stored). Contains (filed_states_of revision saved) (filed_state x)) stored s states (k, small, is) in
         (j, filed_state s, less, there, named_header tracked chain e s seen other)
 
-pub record_refused : (setup : Setup) (answers : SavedAnswers) (i : ℕ) (client : ClientSetup) (tracked : List ℕ) (saved : List Saved) (chains : List SeenChain) (stored : List Stored) (e : ImportError)
-    → i < length setup.clients.items → client ≡ get_or setup.clients.items i client → slice_get setup.chains.items client.tracks ≡ Some tracked → saved ≡ answers_at answers.clients.items i
-    → AtEachPlace (λ (k : ℕ) (id : List ℕ) (chain : SeenChain). AreFiledIn (answers_at answers.chains.items k) chain) setup.chains.items chains
-    → AtRevision tracked (λ revision. AreStatesOfFiles (filed_states_of revision saved) stored)
-    → IsToldOf client.id e → IsOfDifference chains client stored e → HasReasonIn setup answers e
-record_refused setup answers i client tracked saved chains stored errors.NoMemory small is there these each states told w = tt
-record_refused setup answers i client tracked saved chains stored (errors.CheckError p) small is there these each (revision, right, states) told w =
-    of_client setup answers i client saved (errors.CheckError p) small is these (told, inr (w.0, other (slice_get chains client.tracks) refl w.1))
+pub of_other_record : (setup : Setup) (answers : SavedAnswers) (client : ClientSetup) (tracked : List ℕ) (saved : List Saved) (chain : Option SeenChain) (stored : List Stored) (e : ImportError)
+    → IfSome chain (AreFiledIn (answers_at answers.chains.items client.tracks)) → AtRevision tracked (λ revision. AreStatesOfFiles (filed_states_of revision saved) stored)
+    → IsToldOf client.id e → IsOfDifference chain stored e → IsOfClientAnswers setup answers client saved e
+of_other_record setup answers client tracked saved chain stored errors.NoMemory filed states told w = (told, inr tt)
+of_other_record setup answers client tracked saved chain stored (errors.CheckError p) filed (revision, right, states) told w = (told, inr (w.0, other chain filed w.1))
   where
-    other : (o : Option SeenChain) → slice_get chains client.tracks ≡ o → IsSomeAnd o (λ (chain : SeenChain). NamesDifference chain.commits.items stored (errors.CheckError p))
+    other : (o : Option SeenChain) → IfSome o (AreFiledIn (answers_at answers.chains.items client.tracks)) → IsSomeAnd o (λ (c : SeenChain). NamesDifference c.commits.items stored (errors.CheckError p))
         → Any (λ (s : FiledState). Any (NamesRecord (errors.CheckError p) s) (filed_of (answers_at answers.chains.items client.tracks))) (flat_map filed_states_in saved)
-    other (Some chain) at some =
-        named_record saved (answers_at answers.chains.items client.tracks) revision chain stored (errors.CheckError p) (each.1 client.tracks tracked chain there at) states some
-    other None at some = absurd some
+    other (Some c) each some = named_record saved (answers_at answers.chains.items client.tracks) revision c stored (errors.CheckError p) each states some
+    other None each some = absurd some
 
 -- ---- no problem of answers is that a script would be too big
 
@@ -144,5 +120,3 @@ not_too_big setup answers (errors.CheckError p) w big = in_none w
     in_none (inl (i, w)) = none_and (slice_get setup.chains.items i) (λ id. IsOfChainAnswers id (answers_at answers.chains.items i) (errors.CheckError p)) (λ id w. not_chain id _ w) w
     in_none (inr (inl (i, w))) = none_and (slice_get setup.clients.items i) (λ (c : ClientSetup). IsOfClientAnswers setup answers c (answers_at answers.clients.items i) (errors.CheckError p)) (λ c w. not_client c _ w) w
     in_none (inr (inr (i, w))) = none_and (slice_get setup.paths.items i) (λ (x : PathSetup). IsOfPathAnswers x (answers_at answers.paths.items i) (errors.CheckError p)) (λ x w. not_path x _ w) w
-
-pub ruleset reasoning = (chain_refused, path_refused, client_refused, record_refused, not_too_big)

@@ -211,46 +211,6 @@ pub at_all : {X Y : Type 0} (Holds : ℕ → X → Y → Type 0) (xs : List X) (
 unfolding AtEachBefore
 at_all Holds xs n ys whole (long, all) = (long ∙ whole, all)
 
-pub so_far_many : {X Y : Type 0} (n : ℕ) (Holds : ℕ → X → Y → Type 0) (xs : List X) (ys : List Y) → AtEachBefore n Holds xs ys → length ys ≡ n
-unfolding AtEachBefore
-so_far_many n Holds xs ys w = w.0
-
--- an element of a list and one more is one of the list, or that one
-old_or_new : {X : Type 0} (xs : List X) (x : X) (i : ℕ) (a : X) → slice_get (xs ++ x ∷ []) i ≡ Some a → (slice_get xs i ≡ Some a) ⊎ ((i ≡ length xs) × (a ≡ x))
-old_or_new xs x i a there = by (cases_lt i (length xs))
-  where
-    read : get_or (xs ++ x ∷ []) i a ≡ a
-    read = get_or_from_slice_get (xs ++ x ∷ []) i a a there
-
-    by : (i < length xs) ⊎ (length xs ≤ i) → (slice_get xs i ≡ Some a) ⊎ ((i ≡ length xs) × (a ≡ x))
-    by (inl earlier) =
-        let old : a ≡ get_or xs i a = grind (arith, common_steps, read, earlier) in
-        inl (slice_get_read xs (length xs) i a refl earlier old)
-    by (inr later) =
-        let low : i < length (xs ++ x ∷ []) = slice_get_within (xs ++ x ∷ []) i a there in
-        let sum : length (xs ++ x ∷ []) ≡ length xs + 1 = grind (arith, common_steps) in
-        let here : i ≡ length xs = omega (arith, low, later, sum) in
-        let same : a ≡ x = grind (arith, common_steps, read, here) in
-        inr (here, same)
-
--- two lists grow by one each
-pub both_more : {X Y : Type 0} (Holds : ℕ → X → Y → Type 0) (xs after : List X) (ys later : List Y) (x : X) (y : Y) → after ≡ xs ++ x ∷ [] → later ≡ ys ++ y ∷ [] → Holds (length xs) x y
-    → AtEachPlace Holds xs ys → AtEachPlace Holds after later
-both_more {X = X} {Y = Y} Holds xs after ys later x y first second its (long, all) =
-    subst (λ l. AtEachPlace Holds l later) (sym first)
-    (subst (AtEachPlace Holds (xs ++ x ∷ [])) (sym second)
-    (grind (arith, common_steps, long), λ i a b at there. each i a b (old_or_new xs x i a at) (old_or_new ys y i b there)))
-  where
-    each : (i : ℕ) (a : X) (b : Y) → (slice_get xs i ≡ Some a) ⊎ ((i ≡ length xs) × (a ≡ x)) → (slice_get ys i ≡ Some b) ⊎ ((i ≡ length ys) × (b ≡ y)) → Holds i a b
-    each i a b (inl at) (inl there) = all i a b at there
-    each i a b (inr (here, old)) (inr (there, same)) = subst (λ k. Holds k a b) (sym here) (subst (Holds (length xs) a) (sym same) (subst (λ z. Holds (length xs) z y) (sym old) its))
-    each i a b (inl at) (inr (there, same)) = let low = slice_get_within xs i a at in absurd (omega (arith, low, there, long))
-    each i a b (inr (here, old)) (inl there) = let low = slice_get_within ys i b there in absurd (omega (arith, low, here, long))
-
-pub none_yet : {X Y : Type 0} (Holds : ℕ → X → Y → Type 0) (xs : List X) (ys : List Y) → xs ≡ [] → ys ≡ [] → AtEachPlace Holds xs ys
-none_yet {X = X} {Y = Y} Holds xs ys first second =
-    subst (λ l. AtEachPlace Holds l ys) (sym first) (subst (AtEachPlace {X = X} Holds []) (sym second) (refl, λ i x y at there. absurd (omega (arith, slice_get_within {A = Y} [] i y there))))
-
 -- ---- records
 
 -- these are those of the records that a book has room for, in their order

@@ -1,29 +1,35 @@
--- An error that is told of an object of a setup.
-use Rattle.std.proofs.Common.{◌≡◌, ℕ, ◌<◌, List, length, get_or, inl, inr, refl, subst, sym}
-use Rattle.std.proofs.lemmas.List.Elements.{All-push}
+-- A problem is told of an object of a setup.
+use Rattle.std.proofs.Common.{◌≡◌, ℕ, List, Option, Some, None, inl, inr, refl, subst, sym}
+use Rattle.std.specs.Prelude.{Contains, IsSomeAnd, slice_get}
+use Rattle.std.proofs.lemmas.Option.{get_or_from_slice_get, slice_get_within}
 use Rattle.rb_import_setup.specs.declared.setup.ClientSetup.{ClientSetup}
 use Rattle.rb_import_setup.specs.declared.setup.PathSetup.{PathSetup}
 use Rattle.rb_import_setup.specs.declared.setup.Setup.{Setup}
-use Rattle.rb_import_check.specs.declared.error.ImportError.{ImportError}
+use Rattle.rb_import_check.specs.declared.error.CheckError.{CheckError}
 use Rattle.rb_import_check.specs.declared.error.ImportError.TheVariants as errors
-use Rattle.rb_import_check.specs.Errors.{IsToldOf}
-use Rattle.rb_import_merge.specs.Errors.{IsToldIn, IsNamedIn}
+use Rattle.rb_import_check.specs.declared.saved.SavedAnswers.{SavedAnswers}
+use Rattle.rb_import_merge.specs.Errors.{IsNamedIn, IsToldIn}
+use Rattle.rb_import_merge.specs.Reasons.{AtSome, IsOfAnswers, IsOfChainAnswers, IsOfClientAnswers, IsOfPathAnswers}
+use Rattle.rb_import_merge.specs.Seen.{answers_at}
 
-told_in : (setup : Setup) (id : List ℕ) (e : ImportError) → IsNamedIn setup id → IsToldOf id e → IsToldIn setup e
-told_in setup id (errors.CheckError p) named told = subst (IsNamedIn setup) (sym told) named
-told_in setup id errors.NoMemory named told = tt
+contained : {X : Type 0} (xs : List X) (i : ℕ) (x : X) → slice_get xs i ≡ Some x → Contains xs x
+contained xs i x at = (i, slice_get_within xs i x at, get_or_from_slice_get xs i x x at)
 
-pub told_of_chain : (setup : Setup) (id : List ℕ) (i : ℕ) (e : ImportError) → i < length setup.chains.items → id ≡ get_or setup.chains.items i id → IsToldOf id e → IsToldIn setup e
-told_of_chain setup id i e small is told = told_in setup id e (inl (i, small, sym is)) told
+-- what holds at some place holds of something that is contained
+at_some : {X : Type 0} (Holds : X → ℕ → Type 0) (xs : List X) → AtSome Holds xs → (x : X) × (i : ℕ) × Contains xs x × Holds x i
+at_some {X = X} Holds xs (i, w) = there (slice_get xs i) refl w
+  where
+    there : (o : Option X) → slice_get xs i ≡ o → IsSomeAnd o (λ x. Holds x i) → (x : X) × (i : ℕ) × Contains xs x × Holds x i
+    there (Some x) at holds = (x, i, contained xs i x at, holds)
+    there None at holds = absurd holds
 
-pub told_of_client : (setup : Setup) (c : ClientSetup) (i : ℕ) (e : ImportError) → i < length setup.clients.items → c ≡ get_or setup.clients.items i c → IsToldOf c.id e → IsToldIn setup e
-told_of_client setup c i e small is told = told_in setup c.id e (inr (inl (c, (i, small, sym is), refl))) told
-
--- the same by an identifier that is the client's
-pub told_of_client_by : (setup : Setup) (c : ClientSetup) (i : ℕ) (id : List ℕ) (e : ImportError) → i < length setup.clients.items → c ≡ get_or setup.clients.items i c → id ≡ c.id → IsToldOf id e → IsToldIn setup e
-told_of_client_by setup c i id e small is same told = told_in setup id e (inr (inl (c, (i, small, sym is), sym same))) told
-
-pub told_of_path : (setup : Setup) (p : PathSetup) (i : ℕ) (e : ImportError) → i < length setup.paths.items → p ≡ get_or setup.paths.items i p → IsToldOf p.config.id e → IsToldIn setup e
-told_of_path setup p i e small is told = told_in setup p.config.id e (inr (inr (inl (p, (i, small, sym is), refl)))) told
-
-pub ruleset naming = (told_of_chain, told_of_client, told_of_client_by, told_of_path, All-push)
+pub told_in : (setup : Setup) (answers : SavedAnswers) (p : CheckError) → IsOfAnswers setup answers (errors.CheckError p) → IsToldIn setup (errors.CheckError p)
+told_in setup answers p (inl w) =
+    let (id, i, among, holds) = at_some (λ id i. IsOfChainAnswers id (answers_at answers.chains.items i) (errors.CheckError p)) setup.chains.items w in
+    subst (IsNamedIn setup) (sym holds.0) (inl among)
+told_in setup answers p (inr (inl w)) =
+    let (c, i, among, holds) = at_some (λ (c : ClientSetup) i. IsOfClientAnswers setup answers c (answers_at answers.clients.items i) (errors.CheckError p)) setup.clients.items w in
+    subst (IsNamedIn setup) (sym holds.0) (inr (inl (c, among, refl)))
+told_in setup answers p (inr (inr w)) =
+    let (path, i, among, holds) = at_some (λ (x : PathSetup) i. IsOfPathAnswers x (answers_at answers.paths.items i) (errors.CheckError p)) setup.paths.items w in
+    subst (IsNamedIn setup) (sym holds.0) (inr (inr (inl (path, among, refl))))

@@ -23,17 +23,9 @@ use Rattle.rb_import_merge.specs.Sets.{AreKeptSets}
 use Rattle.rb_import_merge.proofs.Among.{in_map}
 use Rattle.rb_import_merge.proofs.Rooms.{AtEachBefore}
 
--- the first so many clients, each as it was seen
-abbrev pub SeenSoFar : ℕ → Setup → List (Vec Saved Global) → List SeenChain → List SeenClient → Type 0
-SeenSoFar n setup answers seen clients = AtEachBefore n (λ (i : ℕ) (x : ClientSetup) (client : SeenClient). IsSeenClient setup.chains.items seen x (answers_at answers i) client) setup.clients.items clients
-
 -- a client tracks a chain of the setup
 pub client_within : (setup : Setup) (c : ClientSetup) (i : ℕ) → i < length setup.clients.items → c ≡ get_or setup.clients.items i c → c.tracks < length setup.chains.items
 client_within setup c i small is = subst (λ (x : ClientSetup). x.tracks < length setup.chains.items) (sym is) (setup.places.each_client i c small).tracks
-
--- the first so many paths, each as it was seen
-abbrev pub PathsSoFar : ℕ → Setup → List (Vec Saved Global) → List SeenPath → Type 0
-PathsSoFar n setup answers paths = AtEachBefore n (λ (i : ℕ) (x : PathSetup) (seen : SeenPath). IsSeenPath setup.chains.items x (answers_at answers i) seen) setup.paths.items paths
 
 -- a path's destination is a chain of the setup
 pub path_within : (setup : Setup) (p : PathSetup) (i : ℕ) → i < length setup.paths.items → p ≡ get_or setup.paths.items i p → p.config.destination < length setup.chains.items
@@ -67,11 +59,6 @@ are_filed id signatures saved chain ((commits, headers, room), sets, belong, jud
     Contains-permutation (map filed joined) (filed_of saved) (filed (get_or commits k d)) (IsPermutation-sym (filed_of saved) (map filed joined) headers.1)
     (in_map filed joined (get_or commits k d) (in_joined commits chain.bare.items chain.unsigned.items (get_or commits k d) (Contains-get_or commits k d small))) in
     subst (All (λ (c : Commit). Contains (filed_of saved) (filed c))) (sym room.1) (All-drop (λ (c : Commit). Contains (filed_of saved) (filed c)) (length commits - 4096) commits all)
-
-pub all_filed : (setup : Setup) (signatures : Signatures) (answers : SavedAnswers) (chains : List SeenChain)
-    → AtEachPlace (λ (i : ℕ) (id : List ℕ) (chain : SeenChain). IsSeenChain id signatures (answers_at answers.chains.items i) chain) setup.chains.items chains
-    → AtEachPlace (λ (i : ℕ) (id : List ℕ) (chain : SeenChain). AreFiledIn (answers_at answers.chains.items i) chain) setup.chains.items chains
-all_filed setup signatures answers chains (long, each) = (long, λ i id chain there at. are_filed id signatures (answers_at answers.chains.items i) chain (each i id chain there at))
 
 pub seen_in : (setup : Setup) (signatures : Signatures) (answers : SavedAnswers) (seen : Seen)
     → AtEachPlace (λ (i : ℕ) (id : List ℕ) (chain : SeenChain). IsSeenChain id signatures (answers_at answers.chains.items i) chain) setup.chains.items seen.chains.items

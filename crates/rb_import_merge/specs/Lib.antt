@@ -14,3 +14,4 @@ pub mod Room
 pub mod Sets
 pub mod Seen
 pub mod Reasons
+pub mod Judged

@@ -1,5 +1,5 @@
 -- Why a setup's answers aren't taken: what doesn't hold of those of one of its chains, clients or paths.
-use Rattle.std.specs.Prelude.{◌≡◌, ◌⊎◌, ⊤, ℕ, List, IsSomeAnd, Any, slice_get}
+use Rattle.std.specs.Prelude.{◌≡◌, ◌⊎◌, ⊤, ℕ, List, Option, IsSomeAnd, Any, slice_get}
 use Rattle.std.specs.List.{flat_map}
 use Rattle.rb_import_answers.specs.declared.client.ConsensusState.{ConsensusState}
 use Rattle.rb_import_answers.specs.declared.commit.SignedHeader.{SignedHeader}
@@ -37,9 +37,8 @@ IsOfOtherRecord chain saved e =
     IsTold CheckErrorName.OtherRecord (Any (λ (s : FiledState). Any (NamesRecord e s) (filed_of chain)) (flat_map filed_states_in saved)) e
 
 -- so it is of a client's records and the commits that were seen of the chain that it tracks
-abbrev pub IsOfDifference : List SeenChain → ClientSetup → List Stored → ImportError → Type 0
-IsOfDifference chains c stored e =
-    IsTold CheckErrorName.OtherRecord (IsSomeAnd (slice_get chains c.tracks) (λ (chain : SeenChain). NamesDifference chain.commits.items stored e)) e
+abbrev pub IsOfDifference : Option SeenChain → List Stored → ImportError → Type 0
+IsOfDifference tracked stored e = IsTold CheckErrorName.OtherRecord (IsSomeAnd tracked (λ (chain : SeenChain). NamesDifference chain.commits.items stored e)) e
 
 -- the error is told of this chain, has its reason in the chain's answers, and names what contradicts there
 abbrev pub IsOfChainAnswers : List ℕ → List Saved → ImportError → Type 0

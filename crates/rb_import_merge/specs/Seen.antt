@@ -72,9 +72,9 @@ IsSeenChain id signatures saved chain =
 abbrev pub AreFiledIn : List Saved → SeenChain → Type 0
 AreFiledIn saved chain = All (λ (c : Commit). Contains (filed_of saved) (filed c)) chain.commits.items
 
--- each of a client's records agrees with the headers of the chain that it tracks
-abbrev pub AgreesWithChain : List SeenChain → ClientSetup → List Stored → Type 0
-AgreesWithChain seen c stored = IfSome (slice_get seen c.tracks) (λ (chain : SeenChain). All (AgreesWith chain.commits.items) stored)
+-- each of a client's records agrees with the headers of the chain that it tracks, where that was seen
+abbrev pub AgreesWithChain : Option SeenChain → List Stored → Type 0
+AgreesWithChain tracked stored = IfSome tracked (λ (chain : SeenChain). All (AgreesWith chain.commits.items) stored)
 
 -- these are the records that the answers of a client of this chain tell of, each of its file, by rising heights, without those of a revision
 -- before the chain's; they are of that revision, and the last page of them is among the answers
@@ -86,17 +86,17 @@ AreRecordsOf tracked saved stored =
 
 -- the client judges headers as the setup says, or else its state, which is on the chain that it tracks, and has the latest height of that; its
 -- records are those that its answers tell of, and agree with the headers of that chain; each answer belongs there
-abbrev pub IsSeenClient : List (List ℕ) → List SeenChain → ClientSetup → List Saved → SeenClient → Type 0
-IsSeenClient chains seen c saved client =
+abbrev pub IsSeenClient : List (List ℕ) → Option SeenChain → ClientSetup → List Saved → SeenClient → Type 0
+IsSeenClient chains tracked c saved client =
     JudgesAs c (client_states_of saved) client
     × (option_to_list client.latest ≡ map (λ (s : ClientState). s.latest) (client_states_of saved))
-    × IsSomeAnd (slice_get chains c.tracks) (λ tracked. AreStatesOn tracked saved × AreRecordsOf tracked saved client.stored.items)
-    × AgreesWithChain seen c client.stored.items × AreOfClient saved
+    × IsSomeAnd (slice_get chains c.tracks) (λ id. AreStatesOn id saved × AreRecordsOf id saved client.stored.items)
+    × AgreesWithChain tracked client.stored.items × AreOfClient saved
 
 -- each of these is what was seen of the client at its place
 abbrev pub AreSeenClients : Setup → List (Vec Saved Global) → List SeenChain → List SeenClient → Type 0
 AreSeenClients setup answers seen clients =
-    AtEachPlace (λ i c client. IsSeenClient setup.chains.items seen c (answers_at answers i) client) setup.clients.items clients
+    AtEachPlace (λ i c client. IsSeenClient setup.chains.items (slice_get seen c.tracks) c (answers_at answers i) client) setup.clients.items clients
 
 -- for how many of the signed headers that a chain's answers tell of a book has no room
 abbrev pub surplus_of : List Saved → SeenChain → ℕ

@@ -3,6 +3,7 @@
 #![tactic(auto)]
 
 mod counterparties;
+mod errors;
 mod kept;
 mod left_out;
 mod lowest;
@@ -17,6 +18,7 @@ mod sources;
 mod surplus;
 
 pub use counterparties::{Counterparties, several_counterparties};
+pub use errors::{ImportErrors, Refusals};
 pub use kept::KeptSets;
 pub use left_out::{LeftOutPacket, PacketLack};
 pub use packets::{Searches, SeenPacket, expiry_at, searches_of};

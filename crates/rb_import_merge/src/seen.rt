@@ -1,22 +1,24 @@
 //! What was seen of a setup's chains, clients and paths, as much of it as books have room for.
-ghost use Rattle.std.specs.Prelude.{◌≡◌, ◌<◌, ◌≤◌, ◌↔◌, Some, length, slice_get, All, IsTrue, IfOk, IfErr, OnOk};
+ghost use Rattle.std.specs.Prelude.{◌≡◌, ◌<◌, ◌↔◌, ◌++◌, ℕ, [], Ok, Some, length, map, slice_get, IsTrue, IfOk, IfErr, OnOk};
+ghost use Rattle.std.specs.List.{flat_map};
 ghost use Rattle.rb_import_check.specs.Errors.{IsToldOf, IsTooBig};
-ghost use Rattle.rb_import_merge.specs.Errors.{IsToldIn};
-ghost use Rattle.rb_import_merge.specs.Reasons.{HasReasonIn, IsOfDifference};
-ghost use Rattle.rb_import_merge.specs.Room.{AtEachPlace};
-ghost use Rattle.rb_import_merge.specs.Seen.{AgreesWithChain, AreFiledIn, AreSeenClients, AreSeenPaths, IsKeptSet, IsSeenChain, IsSeenIn, IsWrittenOf, answers_at, surplus_of};
+ghost use Rattle.rb_import_merge.specs.Errors.{IsToldIn, OfEach};
+ghost use Rattle.rb_import_merge.specs.Judged.{AreJudgedChains, AreJudgedClients, AreJudgedPaths, IsFiledAt, chain_at, problems_in};
+ghost use Rattle.rb_import_merge.specs.Reasons.{HasReasonIn, IsOfChainAnswers, IsOfClientAnswers, IsOfDifference};
+ghost use Rattle.rb_import_merge.specs.Seen.{AgreesWithChain, IsKeptSet, IsSeenChain, IsSeenClient, IsSeenIn, IsWrittenOf, answers_at, surplus_of};
 
+use crate::errors::{ImportErrors, refuse};
 use crate::kept::KeptSets;
 use crate::path::{SeenPath, seen_path};
 use crate::room::{kept_records, surplus_of, with_room};
 use crate::sets::kept_sets;
 use rb_base::ChainId;
 use rb_import_check::{
-    ImportError, Saved, SavedAnswers, SeenChain, SeenClient, Signatures, Stored, judge_records,
-    seen_chain, seen_client,
+    CheckError, ImportError, Saved, SavedAnswers, SeenChain, SeenClient, Signatures, Stored,
+    judge_records, seen_chain, seen_client,
 };
 use rb_import_setup::{ClientSetup, Setup};
-use std::alloc::Global;
+use std::alloc::{AllocError, Global};
 
 /// What was seen of the chains, clients and paths of a setup, in its order. Of each chain there are the headers and
 /// the sets that its book has room for, and how many headers it hasn't; of each client the stored records that the
@@ -112,24 +114,29 @@ fn has_kept(chain: &SeenChain<'_>, kept: &KeptSets, hash: &[u8; 32]) -> bool
 }
 
 /// What was seen of a setup's chains, clients and paths in their answers, as much of it as books have room for; headers that
-/// too few signed, of these signatures, are left out. The first problem is answered: of the chains, of the clients, then of the paths, each in order. `NoMemory` comes where a growth
-/// is refused.
-#[tactic(auto, using(crate::proofs::Reasoning::not_too_big))]
+/// too few signed, of these signatures, are left out. All problems are answered: of the chains, of the clients, then of the paths, each in order; no
+/// client has one with headers of a chain that is refused. `NoMemory` comes where a growth is refused.
 pub fn seen_in<'a>(
     alloc: Global,
     setup: &'a Setup,
     signatures: Signatures,
     answers: &'a SavedAnswers,
-) -> Result<Seen<'a>, ImportError<'a>>
+) -> Result<Seen<'a>, ImportErrors<'a>>
     ensures seen { IfOk result (IsSeenIn setup.entry.now signatures answers.entry.now) }
-    ensures reason { IfErr result (HasReasonIn setup.entry.now answers.entry.now) }
-    ensures names { IfErr result (λ e. ¬ IsTooBig e) }
-    ensures told { IfErr result (IsToldIn setup.entry.now) }
+    ensures reason { IfErr result (OfEach (HasReasonIn setup.entry.now answers.entry.now)) }
+    ensures names { IfErr result (OfEach (λ e. ¬ IsTooBig e)) }
+    ensures told { IfErr result (OfEach (IsToldIn setup.entry.now)) }
 {
-    let fitting = seen_chains(alloc, setup, signatures, answers)?;
-    let (chains, surplus) = fitting;
-    let clients = seen_clients(alloc, setup, answers, chains.as_slice())?;
-    let paths = seen_paths(alloc, setup, answers)?;
+    let by_chain = judged_chains(alloc, setup, signatures, answers)?;
+    let by_client = judged_clients(alloc, setup, answers, by_chain.as_slice())?;
+    let by_path = judged_paths(alloc, setup, answers)?;
+    let mut problems = Vec::new(alloc);
+    let fitting = sound(alloc, by_chain, &mut problems)?;
+    let clients = sound(alloc, by_client, &mut problems)?;
+    let paths = sound(alloc, by_path, &mut problems)?;
+    refuse(problems)?;
+    let parts = parted(alloc, fitting)?;
+    let (chains, surplus) = parts;
     let records = kept_records(alloc, setup, chains.as_slice(), clients.as_slice())?;
     let sets = kept_sets(alloc, setup, chains.as_slice(), records.as_slice())?;
     Ok(Seen {
@@ -142,30 +149,39 @@ pub fn seen_in<'a>(
     })
 }
 
-/// What was seen of each chain, with the signed headers that its book has room for; and how many of each it hasn't.
-#[tactic(auto, using(crate::proofs::Told::naming, crate::proofs::Reasoning::reasoning))]
-fn seen_chains<'a>(
+/// What was seen of each chain, with the signed headers that its book has room for, and how many it hasn't; or why its
+/// answers are refused.
+fn judged_chains<'a>(
     alloc: Global,
     setup: &'a Setup,
     signatures: Signatures,
     answers: &'a SavedAnswers,
-) -> Result<(Vec<SeenChain<'a>>, Vec<usize>), ImportError<'a>>
-    ensures fit { IfOk result (λ seen. All (λ c. length c.commits.items ≤ 4096) seen.0.items) }
-    ensures seen { IfOk result (λ seen. AtEachPlace (λ i id chain. IsSeenChain id signatures (answers_at answers.entry.now.chains.items i) chain) setup.entry.now.chains.items seen.0.items) }
-    ensures surplus { IfOk result (λ seen. AtEachPlace (λ i chain surplus. surplus ≡ surplus_of (answers_at answers.entry.now.chains.items i) chain) seen.0.items seen.1.items) }
-    ensures reason { IfErr result (HasReasonIn setup.entry.now answers.entry.now) }
-    ensures told { IfErr result (IsToldIn setup.entry.now) }
+) -> Result<Vec<Result<(SeenChain<'a>, usize), ImportError<'a>>>, AllocError>
+    ensures { IfOk result (λ chains. AreJudgedChains setup.entry.now signatures answers.entry.now chains.items) }
 {
     let mut chains = Vec::with_capacity(alloc, setup.chains.len())?;
-    let mut surplus = Vec::with_capacity(alloc, setup.chains.len())?;
     for (place, id) in setup.chains.iter().enumerate() {
         let saved = answers_at(&answers.chains, place);
-        let chain = seen_chain(alloc, id.as_str(), signatures, saved)?;
-        surplus.push(surplus_of(&chain))?;
-        let fitting = with_room(alloc, chain)?;
-        chains.push(fitting)?;
+        chains.push(fitting_chain(alloc, id.as_str(), signatures, saved))?;
     }
-    Ok((chains, surplus))
+    Ok(chains)
+}
+
+/// What was seen of a chain, with the signed headers that its book has room for, and how many it hasn't.
+fn fitting_chain<'a>(
+    alloc: Global,
+    id: &'a str,
+    signatures: Signatures,
+    saved: &'a [Saved],
+) -> Result<(SeenChain<'a>, usize), ImportError<'a>>
+    ensures seen { IfOk result (λ fitting. IsSeenChain id.entry.now signatures saved.entry.now fitting.0) }
+    ensures surplus { IfOk result (λ fitting. fitting.1 ≡ surplus_of saved.entry.now fitting.0) }
+    ensures refused { IfErr result (IsOfChainAnswers id.entry.now saved.entry.now) }
+{
+    let chain = seen_chain(alloc, id, signatures, saved)?;
+    let surplus = surplus_of(&chain);
+    let fitting = with_room(alloc, chain)?;
+    Ok((fitting, surplus))
 }
 
 /// The identifier of the chain at a place.
@@ -176,66 +192,113 @@ fn chain_at(setup: &Setup, place: usize) -> &ChainId
     &setup.chains[place]
 }
 
-/// What was seen of each client, by its place.
-#[tactic(auto, using(crate::proofs::Told::naming, crate::proofs::Reasoning::reasoning))]
-fn seen_clients<'a>(
+/// What was seen of each client, beside these chains; or why its answers are refused.
+fn judged_clients<'a>(
     alloc: Global,
     setup: &'a Setup,
     answers: &'a SavedAnswers,
-    chains: &[SeenChain<'a>],
-) -> Result<Vec<SeenClient<'a>>, ImportError<'a>>
-    requires { AtEachPlace (λ i id chain. AreFiledIn (answers_at answers.now.chains.items i) chain) setup.now.chains.items chains.now }
-    ensures seen { IfOk result (λ clients. AreSeenClients setup.entry.now answers.entry.now.clients.items chains.now clients.items) }
-    ensures reason { IfErr result (HasReasonIn setup.entry.now answers.entry.now) }
-    ensures told { IfErr result (IsToldIn setup.entry.now) }
+    chains: &[Result<(SeenChain<'a>, usize), ImportError<'a>>],
+) -> Result<Vec<Result<SeenClient<'a>, ImportError<'a>>>, AllocError>
+    requires { (place : ℕ) → IsFiledAt answers.now chains.now place }
+    ensures { IfOk result (λ clients. AreJudgedClients setup.entry.now answers.entry.now chains.now clients.items) }
 {
     let mut clients = Vec::with_capacity(alloc, setup.clients.len())?;
     for (place, client) in setup.clients.iter().enumerate() {
-        let tracked = chain_at(setup, client.tracks);
         let saved = answers_at(&answers.clients, place);
-        let seen = seen_client(alloc, client, tracked, saved)?;
-        judge_client(alloc, client, chains, seen.stored.as_slice())?;
-        clients.push(seen)?;
+        clients.push(judged_client(alloc, setup, answers, chains, client, saved))?;
     }
     Ok(clients)
 }
 
-/// Refuses a client's record that isn't as the header of its height, of the chain that the client tracks.
-fn judge_client<'a>(
-    alloc: Global,
-    client: &'a ClientSetup,
-    chains: &[SeenChain<'a>],
-    stored: &[Stored<'a>],
-) -> Result<(), ImportError<'a>>
-    ensures accord { OnOk result (AgreesWithChain chains.now client.entry.now stored.now) }
-    ensures other { IfErr result (IsOfDifference chains.now client.entry.now stored.now) }
-    ensures told { IfErr result (IsToldOf client.entry.now.id) }
-{
-    match chains.get(client.tracks) {
-        Some(chain) => judge_records(alloc, client.id.as_str(), chain, stored),
-        None => Ok(()),
-    }
-}
-
-/// What was seen of each path, by its place.
-#[tactic(auto, using(crate::proofs::Told::naming, crate::proofs::Reasoning::reasoning))]
-fn seen_paths<'a>(
+/// What was seen of a client, beside these chains.
+fn judged_client<'a>(
     alloc: Global,
     setup: &'a Setup,
     answers: &'a SavedAnswers,
-) -> Result<Vec<SeenPath<'a>>, ImportError<'a>>
-    ensures seen { IfOk result (λ paths. AreSeenPaths setup.entry.now answers.entry.now.paths.items paths.items) }
-    ensures reason { IfErr result (HasReasonIn setup.entry.now answers.entry.now) }
-    ensures told { IfErr result (IsToldIn setup.entry.now) }
+    chains: &[Result<(SeenChain<'a>, usize), ImportError<'a>>],
+    client: &'a ClientSetup,
+    saved: &'a [Saved],
+) -> Result<SeenClient<'a>, ImportError<'a>>
+    requires tracks { client.now.tracks < length setup.now.chains.items }
+    requires filed { IsFiledAt answers.now chains.now client.now.tracks }
+    ensures seen { IfOk result (IsSeenClient setup.entry.now.chains.items (chain_at chains.now client.entry.now.tracks) client.entry.now saved.entry.now) }
+    ensures refused { IfErr result (IsOfClientAnswers setup.entry.now answers.entry.now client.entry.now saved.entry.now) }
+{
+    let tracked = chain_at(setup, client.tracks);
+    let seen = seen_client(alloc, client, tracked, saved)?;
+    judge_client(alloc, client, chains, seen.stored.as_slice())?;
+    Ok(seen)
+}
+
+/// Refuses a client's record that isn't as the header of its height, of the chain that the client tracks, unless that is refused.
+fn judge_client<'a>(
+    alloc: Global,
+    client: &'a ClientSetup,
+    chains: &[Result<(SeenChain<'a>, usize), ImportError<'a>>],
+    stored: &[Stored<'a>],
+) -> Result<(), ImportError<'a>>
+    ensures accord { OnOk result (AgreesWithChain (chain_at chains.now client.entry.now.tracks) stored.now) }
+    ensures other { IfErr result (IsOfDifference (chain_at chains.now client.entry.now.tracks) stored.now) }
+    ensures told { IfErr result (IsToldOf client.entry.now.id) }
+{
+    match chains.get(client.tracks) {
+        Some(Ok(fitting)) => judge_records(alloc, client.id.as_str(), &fitting.0, stored),
+        _ => Ok(()),
+    }
+}
+
+/// What was seen of each path, or why its answers are refused.
+fn judged_paths<'a>(
+    alloc: Global,
+    setup: &'a Setup,
+    answers: &'a SavedAnswers,
+) -> Result<Vec<Result<SeenPath<'a>, ImportError<'a>>>, AllocError>
+    ensures { IfOk result (λ paths. AreJudgedPaths setup.entry.now answers.entry.now paths.items) }
 {
     let mut paths = Vec::with_capacity(alloc, setup.paths.len())?;
     for (place, path) in setup.paths.iter().enumerate() {
         let dest = chain_at(setup, path.config.destination);
         let saved = answers_at(&answers.paths, place);
-        let seen = seen_path(alloc, path, dest, saved)?;
-        paths.push(seen)?;
+        paths.push(seen_path(alloc, path, dest, saved))?;
     }
     Ok(paths)
+}
+
+/// What was seen in answers that aren't refused; the problems of the others are added. `NoMemory` of one of them is that of all.
+fn sound<'a, T: Drop>(
+    alloc: Global,
+    results: Vec<Result<T, ImportError<'a>>>,
+    problems: &mut Vec<CheckError<'a>>,
+) -> Result<Vec<T>, AllocError>
+    ensures problems { OnOk result (problems.new.items ≡ problems.old.items ++ flat_map problems_in results.entry.items) }
+    ensures all { IfOk result (λ sound. flat_map problems_in results.entry.items ≡ [] → results.entry.items ≡ map Ok sound.items) }
+{
+    let mut sound = Vec::with_capacity(alloc, results.len())?;
+    for result in results {
+        match result {
+            Ok(seen) => sound.push(seen)?,
+            Err(ImportError::CheckError(problem)) => problems.push(problem)?,
+            Err(ImportError::NoMemory) => return Err(AllocError),
+        }
+    }
+    Ok(sound)
+}
+
+/// The chains, and the numbers of headers for which their books have no room.
+fn parted<'a>(
+    alloc: Global,
+    fitting: Vec<(SeenChain<'a>, usize)>,
+) -> Result<(Vec<SeenChain<'a>>, Vec<usize>), AllocError>
+    ensures chains { IfOk result (λ parts. parts.0.items ≡ map (λ f. f.0) fitting.entry.items) }
+    ensures surplus { IfOk result (λ parts. parts.1.items ≡ map (λ f. f.1) fitting.entry.items) }
+{
+    let mut chains = Vec::with_capacity(alloc, fitting.len())?;
+    let mut surplus = Vec::with_capacity(alloc, fitting.len())?;
+    for (chain, left_out) in fitting {
+        chains.push(chain)?;
+        surplus.push(left_out)?;
+    }
+    Ok((chains, surplus))
 }
 
 /// The answers of the object at a place; none where there are none.

@@ -1,12 +1,12 @@
 use Rattle.std.proofs.Common.{sym, ◌∙◌}
-use Rattle.std.specs.Prelude.{◌≡◌, Ok, string_bytes}
+use Rattle.std.specs.Prelude.{◌≡◌, Ok}
 use Rattle.std.proofs.lemmas.Bool.{true≢false}
 use Rattle.rb_script_types.specs.Script.{IsReadScript, script_view}
 use Rattle.rb_script_read.specs.Work.{little}
 use Rattle.rb_import.specs.Scripts as made
 use Rattle.ibcplan_folders.specs.Files.{IsMadeOf, signatures_of}
 use Rattle.ibcplan_folders.specs.Leavings.{IsLeft}
-use Rattle.ibcplan_folders.proofs.Leaving.{left_once}
+use Rattle.ibcplan_folders.proofs.Leaving.{left_after}
 use Rattle.ibcplan_folders.proofs.Wholes.{in_part, of_rest, of_seen, part_of}
 use Rattle.ibcplan_folders.proofs.importing.scripted.Goals as goal
 
@@ -37,6 +37,6 @@ rounds-preserved c =
     let some = c.in_ok-fleet.ensures.told in
     record {
       whole = λ none. absurd (true≢false (sym some ∙ none));
-      left = left_once (string_bytes c.in_ok-failure-in-Err.failure.id) c.args.fleet c.rounds.fleet c.in_ok-fleet.fleet c.rounds.invariant.left c.in_ok-fleet.ensures.left;
+      left = left_after c.args.fleet c.rounds.fleet c.in_ok-fleet.fleet c.rounds.invariant.left c.in_ok-fleet.ensures.left;
       in_part = λ before. some;
     }

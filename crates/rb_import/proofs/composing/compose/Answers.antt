@@ -1,0 +1,35 @@
+use Rattle.std.proofs.Common.{rules}
+use Rattle.rb_import_check.specs.Errors.{IsTooBig}
+use Rattle.rb_import_check.specs.declared.error.ImportError.{ImportError}
+use Rattle.rb_import_merge.specs.Errors.{OfEach}
+use Rattle.rb_import_merge.specs.Seen.{HoldsOfSeen}
+use Rattle.rb_import_merge.proofs.Judging.{refused_so}
+use Rattle.rb_import.specs.Reasons.{HasReasonOfScript, NamesLargest}
+use Rattle.rb_import.proofs.Fitting.{all_of_largest, all_of_size, none_too_big, of_answers, written_in, written_opens, written_short}
+use Rattle.rb_import.proofs.composing.compose.Goals as goal
+
+pub returns-clause-size : goal.returns-clause-size
+returns-clause-size c = written_short _ _ c.in_ok-seen.seen c.composed_of.result c.composed_of.ensures.text
+
+pub returns-clause-opening : goal.returns-clause-opening
+returns-clause-opening c = written_opens _ _ c.in_ok-seen.seen c.composed_of.result c.composed_of.ensures.text
+
+pub returns-clause-script : goal.returns-clause-script
+returns-clause-script c = written_in _ _ _ c.in_ok-seen.seen c.composed_of.result c.in_ok-seen.ensures.seen c.composed_of.ensures.notices c.composed_of.ensures.text
+
+pub returns-clause-reason : goal.returns-clause-reason
+returns-clause-reason c = all_of_size _ _ _ c.in_ok-seen.seen c.composed_of.result c.in_ok-seen.ensures.seen c.composed_of.ensures.size
+
+pub returns-clause-big : goal.returns-clause-big
+returns-clause-big c = all_of_largest _ _ _ c.in_ok-seen.seen c.composed_of.result c.in_ok-seen.ensures.seen c.composed_of.ensures.size
+
+pub returns-in_err-seen-clause-reason : goal.returns-in_err-seen-clause-reason
+returns-in_err-seen-clause-reason c =
+    let Holds : ImportError → Type 0 = HasReasonOfScript c.args.setup.now c.args.signatures c.args.answers.now in
+    refused_so (OfEach Holds) c.from_residual.result c.in_err-seen.field-0.0 (search rules)
+    (of_answers c.args.setup.now c.args.signatures c.args.answers.now c.in_err-seen.field-0.0 c.in_err-seen.ensures.reason)
+
+pub returns-in_err-seen-clause-big : goal.returns-in_err-seen-clause-big
+returns-in_err-seen-clause-big c =
+    let Tells : ImportError → Type 0 = λ p. HoldsOfSeen c.args.setup.now c.args.signatures c.args.answers.now (λ seen. NamesLargest c.args.setup.now seen p) in
+    refused_so (OfEach (λ p. IsTooBig p → Tells p)) c.from_residual.result c.in_err-seen.field-0.0 (search rules) (none_too_big Tells c.in_err-seen.field-0.0 c.in_err-seen.ensures.names)
