@@ -53,5 +53,3 @@ sent_with known config relayer us updates bs batches senders p has is same_updat
   parcel = subst (λ (xs : List PlannedUpdate). HasParcel known config xs batches senders p) same_updates
       (subst (λ (ys : List PlannedBatch). HasParcel known config us ys senders p) same_batches has);
 }
-
-pub ruleset sending = (sent_with)

@@ -191,7 +191,6 @@ fn sending_of<R: Threads + Sync, G: Gate + Sync>(
 }
 
 /// Judges the proofs of packet messages; where some aren't there, they are asked for, and else the messages are made.
-#[tactic(auto, using(crate::proofs::Parcels::sending))]
 fn proved<'a, F: AnswerFolders>(
     files: &F,
     sending: &Sending,
