@@ -6,7 +6,7 @@ ghost use Rattle.ibcplan_cli.specs.Failures.{failure_status, told_fault};
 
 use crate::host::Host;
 use ibcplan_cli::{Given, Import, Input, ProgramError, Shown, status};
-use ibcplan_folders::{Answers, MadeScript, made};
+use ibcplan_folders::{Answers, HostFolders, MadeScript, made};
 use rb_import_setup::{is_setup, read_setup};
 use rb_script_read::{read_script, read_script_by};
 use rb_script_toml::RunError;
@@ -79,11 +79,15 @@ pub fn script_of_setup<'a, R: Host>(
 ) -> Result<GivenScript<'a>, ProgramError<'a>>
     ensures form { IfOk result (λ given. IsReadScript (script_view given.script)) }
 {
+    let files = HostFolders {
+        rt,
+        folder: import.folder,
+    };
     let MadeScript {
         script,
         notices,
         status,
-    } = made(rt, input, answers_of(import))?;
+    } = made(&files, input, answers_of(import))?;
     Ok(GivenScript {
         script,
         file: input.name(),

@@ -14,6 +14,7 @@ mod health;
 mod host;
 mod journal;
 mod messages;
+mod parcel;
 mod perform;
 mod progress;
 mod reporting;

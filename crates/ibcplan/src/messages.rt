@@ -1,17 +1,23 @@
 //! The client messages and the transactions of a script's last turn, or of a setup's, made of the answers of nodes.
-ghost use Rattle.std.specs.Prelude.{IfOk};
+ghost use Rattle.std.specs.Prelude.{◌≡◌, IfOk, IfSome};
 ghost use Rattle.rb_script_types.specs.Script.{script_view, IsReadScript};
+ghost use Rattle.ibcplan.specs.Headline.{AreMessagesOf, AreSendersOf, HasParcel, IsParcelOf, IsSentBy};
 ghost use Rattle.ibcplan.specs.Sendings.{IsSendingOf};
+ghost use Rattle.ibcplan_folders.specs.Packets.{ArePacketTexts};
 
-use crate::given::{GivenScript, script_of_setup, script_of_text};
+use crate::given::{answers_of, script_of_text};
 use crate::host::Host;
+use crate::parcel::Parcel;
 use ibcplan_cli::{Import, Input, ProgramError, status};
-use ibcplan_folders::{PacketTexts, files_of, lines_of, packet_texts, read_answers, write_files};
+use ibcplan_folders::{
+    AnswerFolders, Answers, HostFolders, MadeScript, PacketTexts, files_of, lines_of, made,
+    packet_texts, read_answers, write_files,
+};
 use rb_base::Gate;
 use rb_core::Core;
 use rb_import_setup::{Sender, is_setup, read_setup};
 use rb_messages::PlannedUpdate;
-use rb_script_types::Script;
+use rb_script_types::{Config, Script};
 use rb_sending::{
     PlannedBatch, TransactionFile, planned_batches, planned_updates, shell_of, transaction_files,
     transactions_shell_of,
@@ -29,11 +35,12 @@ pub struct MessageLines {
     pub status: u8,
 }
 
-/// The folder of the answers, and the folder that is made.
-#[derive(Clone, Copy)]
-struct Folders<'f> {
-    answers: &'f str,
-    output: &'f str,
+/// What is written, if no proof is asked for, with the shell file that sends it, and what is told.
+#[derive(Drop)]
+pub struct Sent {
+    pub parcel: Option<Parcel>,
+    pub shell: String,
+    pub told: MessageLines,
 }
 
 /// A relayer after a script's last turn, and what this turn sends.
@@ -53,62 +60,112 @@ pub fn messages_of<'a, R: Host, G: Gate + Sync>(
     gate: &G,
 ) -> Result<MessageLines, ProgramError<'a>> {
     let input = Input::read(rt, import.setup)?;
-    let folders = Folders {
-        answers: import.folder,
-        output,
+    let files = HostFolders {
+        rt,
+        folder: import.folder,
     };
-    match is_setup(rt.alloc(), input.bytes()) {
-        Ok(true) => {
-            let given = script_of_setup(rt, &input, import)?;
-            let senders = senders_of(rt.alloc(), &input)?;
-            messages_by(rt, given, senders.as_slice(), folders, gate)
-        }
-        Ok(false) => {
-            let given = script_of_text(rt, rt.alloc(), &input, 0)?;
-            messages_by(rt, given, &[], folders, gate)
-        }
+    let sent = match is_setup(rt.alloc(), input.bytes()) {
+        Ok(true) => sent_by_setup(rt, &files, &input, answers_of(import), gate)?,
+        Ok(false) => sent_by_text(rt, &files, &input, gate)?,
+        Err(_) => return Err(ProgramError::NoMemory),
+    };
+    let Sent {
+        parcel,
+        shell,
+        told,
+    } = sent;
+    if let Some(parcel) = &parcel {
+        let messages = parcel.messages.as_slice();
+        let transactions = parcel.transactions.as_slice();
+        write_files(rt, output, messages, transactions, shell.as_str())?;
+    }
+    Ok(told)
+}
+
+/// The messages of a setup, by the answers in folders.
+pub fn sent_by_setup<'a, R: Threads + Sync, F: AnswerFolders, G: Gate + Sync>(
+    rt: &R,
+    files: &F,
+    input: &Input<'a>,
+    answers: Answers<'_>,
+    gate: &G,
+) -> Result<Sent, ProgramError<'a>>
+    ensures { IfOk result (λ sent. IfSome sent.parcel (AreMessagesOf (F.known files.now) input.now answers.entry)) }
+{
+    let senders = senders_of(files.alloc(), input)?;
+    let imported = made(files, input, answers)?;
+    let MadeScript {
+        script,
+        notices,
+        status,
+    } = imported;
+    let sent = sent_by(rt, files, script, senders.as_slice(), gate)?;
+    told_behind(files.alloc(), notices.as_str(), status, sent)
+}
+
+/// What is sent, told behind the notices of the answers that its script was made of.
+fn told_behind<'a>(
+    alloc: Global,
+    notices: &str,
+    status: u8,
+    sent: Sent,
+) -> Result<Sent, ProgramError<'a>>
+    ensures { IfOk result (λ told. told.parcel ≡ sent.parcel) }
+{
+    let Sent {
+        parcel,
+        shell,
+        told,
+    } = sent;
+    let behind = told.notices.as_str();
+    match format!(in alloc; "{notices}{behind}") {
+        Ok(notices) => Ok(Sent {
+            parcel,
+            shell,
+            told: MessageLines {
+                lines: told.lines,
+                notices,
+                status: told.status.max(status),
+            },
+        }),
         Err(_) => Err(ProgramError::NoMemory),
     }
 }
 
-/// Who sends transactions to each of a setup's chains.
-fn senders_of<'a>(
-    alloc: Global,
+/// The messages of the script in a text.
+fn sent_by_text<'a, R: Threads + Sync, F: AnswerFolders, G: Gate + Sync>(
+    rt: &R,
+    files: &F,
     input: &Input<'a>,
-) -> Result<Vec<Option<Sender>>, ProgramError<'a>> {
+    gate: &G,
+) -> Result<Sent, ProgramError<'a>> {
+    let given = script_of_text(rt, files.alloc(), input, 0)?;
+    sent_by(rt, files, given.script, &[], gate)
+}
+
+/// Who sends transactions to each of a setup's chains.
+fn senders_of<'a>(alloc: Global, input: &Input<'a>) -> Result<Vec<Option<Sender>>, ProgramError<'a>>
+    ensures { IfOk result (λ senders. AreSendersOf input.now senders.items) }
+{
     match read_setup(alloc, input.bytes()) {
         Ok(setup) => Ok(setup.senders),
         Err(error) => Err(ProgramError::of_setup(error, input)),
     }
 }
 
-/// The messages of a script, told behind the notices of the answers that it was made of.
-fn messages_by<'a, R: Host, G: Gate + Sync>(
+/// The messages of a script.
+fn sent_by<'a, R: Threads + Sync, F: AnswerFolders, G: Gate + Sync>(
     rt: &R,
-    given: GivenScript<'a>,
+    files: &F,
+    script: Script,
     senders: &[Option<Sender>],
-    folders: Folders<'_>,
     gate: &G,
-) -> Result<MessageLines, ProgramError<'a>>
-    requires { IsReadScript (script_view given.script) }
+) -> Result<Sent, ProgramError<'a>>
+    requires { IsReadScript (script_view script) }
+    ensures { IfOk result (λ sent. IfSome sent.parcel (IsParcelOf (F.known files.now) (script_view script) senders.now)) }
 {
-    let GivenScript {
-        script,
-        notices,
-        status,
-        ..
-    } = given;
-    let Ok(sending) = sending_of(rt, rt.alloc(), script, gate) else {
-        return Err(ProgramError::NoMemory);
-    };
-    let made = proved(rt, &sending, senders, folders)?;
-    let told = made.notices.as_str();
-    match format!(in rt.alloc(); "{notices}{told}") {
-        Ok(notices) => Ok(MessageLines {
-            lines: made.lines,
-            notices,
-            status: made.status.max(status),
-        }),
+    match sending_of(rt, files.alloc(), script, gate) {
+        Ok(sending) => proved(files, &sending, senders),
         Err(_) => Err(ProgramError::NoMemory),
     }
 }
@@ -133,65 +190,92 @@ fn sending_of<R: Threads + Sync, G: Gate + Sync>(
     })
 }
 
-/// Judges the proofs of packet messages; where some aren't there, they are asked for, and else the messages are written.
-fn proved<'a, R: Host>(
-    rt: &R,
+/// Judges the proofs of packet messages; where some aren't there, they are asked for, and else the messages are made.
+fn proved<'a, F: AnswerFolders>(
+    files: &F,
     sending: &Sending,
     senders: &[Option<Sender>],
-    folders: Folders<'_>,
-) -> Result<MessageLines, ProgramError<'a>> {
+) -> Result<Sent, ProgramError<'a>>
+    ensures { IfOk result (λ sent. IfSome sent.parcel (IsSentBy (F.known files.now) sending.now.relayer sending.now.updates.items sending.now.batches.items senders.now)) }
+{
     let config = sending.relayer.config();
     let batches = sending.batches.as_slice();
     let PacketTexts {
         texts,
         wanted,
         left_out,
-    } = packet_texts(rt, folders.answers, config, senders, batches)?;
+    } = packet_texts(files, config, senders, batches)?;
     if !wanted.is_empty() {
-        return Ok(MessageLines {
-            lines: wanted,
-            notices: left_out,
-            status: status::PARTLY_LEFT_OUT,
+        return Ok(Sent {
+            parcel: None,
+            shell: String::new(files.alloc()),
+            told: MessageLines {
+                lines: wanted,
+                notices: left_out,
+                status: status::PARTLY_LEFT_OUT,
+            },
         });
     }
-    let lines = written(rt, sending, senders, texts.as_slice(), folders)?;
+    let updates = sending.updates.as_slice();
+    let packets = texts.as_slice();
+    let parcel = parcel_of(files, config, updates, batches, senders, packets)?;
+    let (shell, lines) = told_of(files.alloc(), sending, senders, &parcel)?;
     let status = if left_out.is_empty() {
         status::DONE
     } else {
         status::PARTLY_LEFT_OUT
     };
-    Ok(MessageLines {
-        lines,
-        notices: left_out,
-        status,
+    Ok(Sent {
+        parcel: Some(parcel),
+        shell,
+        told: MessageLines {
+            lines,
+            notices: left_out,
+            status,
+        },
     })
 }
 
-/// Reads the answers on chains, makes the messages of updates and the transactions, and writes their files.
-fn written<'a, R: Host>(
-    rt: &R,
-    sending: &Sending,
+/// Reads the answers on chains, and makes the messages of updates and the transactions.
+fn parcel_of<'a, F: AnswerFolders>(
+    files: &F,
+    config: &Config,
+    updates: &[PlannedUpdate],
+    batches: &[PlannedBatch],
     senders: &[Option<Sender>],
     packets: &[Vec<Option<String>>],
-    folders: Folders<'_>,
-) -> Result<String, ProgramError<'a>> {
-    let chains = sending.relayer.config().chains.as_slice();
+) -> Result<Parcel, ProgramError<'a>>
+    requires { ArePacketTexts (F.known files.now) config.now senders.now batches.now packets.now }
+    ensures { IfOk result (HasParcel (F.known files.now) config.now updates.now batches.now senders.now) }
+{
+    let chains = config.chains.as_slice();
+    let answers = read_answers(files, chains, updates)?;
+    let messages = files_of(files.alloc(), chains, answers.as_slice(), updates)?;
+    let made = messages.as_slice();
+    match transaction_files(files.alloc(), chains, senders, batches, made, packets) {
+        Ok(transactions) => Ok(Parcel {
+            messages,
+            transactions,
+        }),
+        Err(_) => Err(ProgramError::NoMemory),
+    }
+}
+
+/// The shell file of what is sent, and the lines that tell of it.
+fn told_of<'a>(
+    alloc: Global,
+    sending: &Sending,
+    senders: &[Option<Sender>],
+    parcel: &Parcel,
+) -> Result<(String, String), ProgramError<'a>> {
     let updates = sending.updates.as_slice();
     let batches = sending.batches.as_slice();
-    let answers = read_answers(rt, folders.answers, chains, updates)?;
-    let files = files_of(rt.alloc(), chains, answers.as_slice(), updates)?;
-    let made = files.as_slice();
-    let Ok(transactions) = transaction_files(rt.alloc(), chains, senders, batches, made, packets)
-    else {
+    let transactions = parcel.transactions.as_slice();
+    let Ok(shell) = shell_for(alloc, sending, senders, transactions) else {
         return Err(ProgramError::NoMemory);
     };
-    let transactions = transactions.as_slice();
-    let Ok(shell) = shell_for(rt.alloc(), sending, senders, transactions) else {
-        return Err(ProgramError::NoMemory);
-    };
-    write_files(rt, folders.output, made, transactions, shell.as_str())?;
-    match lines_of(rt.alloc(), updates, batches, transactions) {
-        Ok(lines) => Ok(lines),
+    match lines_of(alloc, updates, batches, transactions) {
+        Ok(lines) => Ok((shell, lines)),
         Err(_) => Err(ProgramError::NoMemory),
     }
 }

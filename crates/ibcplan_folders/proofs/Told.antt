@@ -1,6 +1,6 @@
 -- Answers that were read, and the texts that are made of them.
 use Rattle.std.proofs.Common.{◌≡◌, ◌<◌, ◌+◌, ℕ, List, [], ◌∷◌, ◌++◌, get_or, length, subst, sym, take}
-use Rattle.std.specs.Prelude.{Result, Ok, Err, OnOk, Option, Some, IfSome, Vec}
+use Rattle.std.specs.Prelude.{Result, Ok, Err, OnOk, Option, Some, None, IfSome, Vec}
 use Rattle.std.specs.Global.{Global}
 use Rattle.std.specs.List.{All, AllZip}
 use Rattle.std.proofs.lemmas.List.Elements.{All-push}
@@ -11,18 +11,28 @@ use Rattle.rb_plan_client.specs.Task.{Message}
 use Rattle.rb_script_types.specs.declared.config.Config.{Config}
 use Rattle.rb_script_types.specs.declared.config.PathConfig.{PathConfig}
 use Rattle.rb_sending.specs.declared.batch.PlannedBatch.{PlannedBatch}
-use Rattle.ibcplan_folders.specs.Packets.{IsDue, IsTextOf, WasRead, WereRead}
+use Rattle.rb_packet_messages.specs.Facts.{IsAnswerOf}
+use Rattle.ibcplan_folders.specs.Folders.{AnswerFile, OfKnown, content}
+use Rattle.ibcplan_folders.specs.Packets.{IsDue, IsTextOf, WasRead}
 
-pub some_read : (o : Option PathAnswer) (a : PathAnswer) → o ≡ Some a → IfSome o WasRead → WasRead a
-some_read o a is told = subst (λ (x : Option PathAnswer). IfSome x WasRead) is told
+pub some_read : (W : PathAnswer → Type 0) (o : Option PathAnswer) (a : PathAnswer) → o ≡ Some a → IfSome o W → W a
+some_read W o a is told = subst (λ (x : Option PathAnswer). IfSome x W) is told
 
 -- behind those that were read is one more, if it could be added
-pub added_read : {T E : Type 0} (r : Result T E) (old new : List PathAnswer) (a : PathAnswer) → OnOk r (new ≡ old ++ a ∷ []) → WasRead a → OnOk r (All WasRead old → All WasRead new)
-added_read (Ok done) old new a is told = λ were. subst (All WasRead) (sym is) (All-push WasRead old a were told)
-added_read (Err error) old new a is told = tt
+pub added_read : {T E : Type 0} (W : PathAnswer → Type 0) (r : Result T E) (old new : List PathAnswer) (a : PathAnswer) → OnOk r (new ≡ old ++ a ∷ []) → W a → OnOk r (All W old → All W new)
+added_read W (Ok done) old new a is told = λ were. subst (All W) (sym is) (All-push W old a were told)
+added_read W (Err error) old new a is told = tt
 
-pub told_more : (xs ys : List (Vec PathAnswer Global)) (v : Vec PathAnswer Global) → ys ≡ xs ++ v ∷ [] → WereRead v → All WereRead xs → All WereRead ys
-told_more xs ys v is one all = subst (All WereRead) (sym is) (All-push WereRead xs v all one)
+named : (known : Option (List AnswerFile)) (folder name bytes : List ℕ) → OfKnown known (λ files. content folder name files ≡ Some bytes)
+    → OfKnown known (λ files. (n : List ℕ) × (content folder n files ≡ Some bytes))
+named None folder name bytes at = tt
+named (Some files) folder name bytes at = (name, at)
+
+-- what the bytes of a file tell
+pub read_of : (known : Option (List AnswerFile)) (folder name bytes slice : List ℕ) (o : Option PathAnswer) → slice ≡ bytes → OfKnown known (λ files. content folder name files ≡ Some bytes)
+    → IfSome o (IsAnswerOf slice) → IfSome o (WasRead known folder)
+read_of known folder name bytes slice None same at told = tt
+read_of known folder name bytes slice (Some a) same at told = record { bytes = bytes; told = subst (λ bs. IsAnswerOf bs a) same told; of_file = named known folder name bytes at }
 
 -- beside a list the next one is made
 pub beside_more : {A B : Type 0} (R : A → B → Type 0) (xs : List A) (i : ℕ) (x : A) (ys zs : List B) (y : B) → zs ≡ ys ++ y ∷ []

@@ -11,7 +11,6 @@ use Rattle.rb_import.specs.Scripts as made
 use Rattle.rb_import.specs.Scripts.{IsFitting}
 use Rattle.ibcplan_folders.specs.declared.importing.Answers.{Answers}
 use Rattle.ibcplan_folders.specs.declared.importing.ImportedText.{ImportedText}
-use Rattle.ibcplan_folders.specs.declared.importing.MadeScript.{MadeScript}
 use Rattle.ibcplan_folders.specs.declared.left_out.Fleet.{Fleet}
 
 -- the file of this name tells this by its bytes; of a client's records those of this revision and of later ones
@@ -40,6 +39,3 @@ HoldsOfRest fleet status Holds = (rest : Fleet) × (status ≡ 0 → rest ≡ fl
 
 abbrev pub IsScriptOfRest : Fleet → Signatures → ImportedText → Type 0
 IsScriptOfRest fleet signatures t = HoldsOfRest fleet t.status (λ rest. IsScriptOf rest signatures (string_bytes t.script))
-
-abbrev pub IsMadeOfRest : Fleet → Signatures → MadeScript → Type 0
-IsMadeOfRest fleet signatures m = HoldsOfRest fleet m.status (λ rest. IsMadeOf rest signatures m.script)

@@ -14,6 +14,7 @@ use Rattle.rb_script_types.specs.declared.config.Config.{Config}
 use Rattle.rb_script_types.specs.declared.config.PathConfig.{PathConfig}
 use Rattle.rb_sending.specs.Transactions.{sender_at}
 use Rattle.rb_sending.specs.declared.batch.PlannedBatch.{PlannedBatch}
+use Rattle.ibcplan_folders.specs.Folders.{AnswerFile, OfKnown, content}
 
 -- what a message of a batch is made of: its packet is one of its path's channel, as the answers tell of it, and its proof is judged by the app
 -- hash of the consensus state at the proof height of the batch
@@ -48,15 +49,21 @@ abbrev pub StandFor : Config Global → List (Option Sender) → List (Vec PathA
 StandFor config senders answers batch texts =
     MatchOption (sender_at senders batch.host) (texts.items ≡ []) (λ s. AllZip (StandsFor config batch answers (string_bytes s.signer)) batch.messages.items texts.items)
 
--- an answer that the bytes of a file tell
-abbrev pub WasRead : PathAnswer → Type 0
-WasRead a = (bytes : List ℕ) × IsAnswerOf bytes a
+-- an answer that the bytes of a file tell; where files are known, it is one of this folder
+pub record WasRead (known : Option (List AnswerFile)) (folder : List ℕ) (a : PathAnswer) : Type 0 where
+  pub bytes : List ℕ
+  pub told : IsAnswerOf bytes a
+  pub of_file : OfKnown known (λ files. (name : List ℕ) × (content folder name files ≡ Some bytes))
 
-abbrev pub WereRead : Vec PathAnswer Global → Type 0
-WereRead answers = All WasRead answers.items
+abbrev pub WereRead : Option (List AnswerFile) → List ℕ → Vec PathAnswer Global → Type 0
+WereRead known folder answers = All (WasRead known folder) answers.items
 
--- the texts of the packet messages of batches, by answers that were read
-pub record ArePacketTexts (config : Config Global) (senders : List (Option Sender)) (batches : List PlannedBatch) (texts : List (Vec (Option (String Global)) Global)) : Type 0 where
+-- so it is of the folder of a path
+abbrev pub WereReadOf : Option (List AnswerFile) → PathConfig → Vec PathAnswer Global → Type 0
+WereReadOf known path answers = WereRead known path.id answers
+
+-- the texts of the packet messages of batches, by answers that were read in the folders of paths
+pub record ArePacketTexts (known : Option (List AnswerFile)) (config : Config Global) (senders : List (Option Sender)) (batches : List PlannedBatch) (texts : List (Vec (Option (String Global)) Global)) : Type 0 where
   pub answers : List (Vec PathAnswer Global)
-  pub were_read : All WereRead answers
+  pub were_read : AllZip (WereReadOf known) config.paths.items answers
   pub texts_are : AllZip (StandFor config senders answers) batches texts

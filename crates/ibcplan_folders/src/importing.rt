@@ -1,18 +1,23 @@
 //! Importing: the files of a folder are read, and the script that they make is given, or written, without the clients and
 //! the paths whose answers are refused.
-ghost use Rattle.std.specs.Prelude.{◌≡◌, ◌∷◌, ◌++◌, [], IfOk, MatchOption, Ok, OnOk, is_some, slice_get, string_bytes, true};
+ghost use Rattle.std.specs.Prelude.{◌≡◌, ◌∷◌, ◌++◌, [], IfOk, MatchOption, Ok, OnOk, is_some, map, slice_get, string_bytes, true};
+ghost use Rattle.std.specs.List.{AllZip, enumerate_from};
 ghost use Rattle.sha2.specs.Sha256.{sha256};
 ghost use Rattle.rb_import_answers.specs.Answers.{answer_view, told_in, verdicts_file, without_votes};
 ghost use Rattle.rb_import_answers.specs.Revisions.{IsRevision};
 ghost use Rattle.rb_script_types.specs.Script.{IsReadScript, script_view};
 ghost use Rattle.rb_script_read.specs.Work.{little};
 ghost use Rattle.rb_import.specs.Openings.{Opens, hold_verdicts};
-ghost use Rattle.ibcplan_folders.specs.Files.{HasVerdicts, IsMadeOfRest, IsScriptOfRest, TellsIn, signatures_of};
+ghost use Rattle.ibcplan_folders.specs.Files.{HasVerdicts, IsScriptOfRest, TellsIn, signatures_of};
+ghost use Rattle.ibcplan_folders.specs.Fleets.{AreTold, ChainHas, ChainsHave, ClientHas, ClientsHave, IsFleetOf, IsMadeBy, IsRestOf, PathsHave, path_ids};
+ghost use Rattle.ibcplan_folders.specs.Leavings.{HasMore, IsLeftOf, IsMadeOfLeft, OrFailed, failed};
+ghost use Rattle.ibcplan_folders.specs.Folders.{AreAnswersIn, IsAnswerIn, OfKnown};
 ghost use Rattle.ibcplan_folders.specs.LeftOut.{import_status};
 
+use crate::answer_folders::{AnswerFolders, HostFolders};
 use crate::file_system::FileSystem;
 use crate::left_out::{Failure, Failures, Fleet, LeftOut, is_tracked};
-use ibcplan_cli::{Input, ProgramError, bytes_of, shown_text};
+use ibcplan_cli::{Input, ProgramError, shown_text};
 use rb_base::ChainId;
 use rb_import::{Composed, Made, compose, make};
 use rb_import_answers::revision_of;
@@ -20,11 +25,10 @@ use rb_import_check::{CheckError, Saved, SavedAnswers, SavedError, Signatures, r
 use rb_import_json::{FieldError, FieldErrorName};
 use rb_import_merge::ImportErrors;
 use rb_import_notices::Notices;
-use rb_import_setup::{ClientSetup, Setup, read_setup};
+use rb_import_setup::{ClientSetup, PathSetup, Setup, read_setup};
 use rb_script_types::Script;
 use std::alloc::{AllocError, Global};
-use std::fs::File;
-use std::{fs, io};
+use std::io;
 
 /// The folder with the answers of nodes, whether nothing is written where some of them are refused, and whether only
 /// votes with a good verdict count.
@@ -58,33 +62,40 @@ pub fn imported<'a, R: FileSystem>(
     answers: Answers<'_>,
 ) -> Result<ImportedText, ProgramError<'a>> {
     let mut left_out = LeftOut::nothing(rt.alloc());
-    let fleet = fleet_of(rt, input, answers, &mut left_out)?;
+    let files = HostFolders {
+        rt,
+        folder: answers.folder,
+    };
+    let fleet = fleet_of(&files, input, answers, &mut left_out)?;
     composed(rt.alloc(), fleet, answers, left_out)
 }
 
 /// The script that a setup and the answers in a folder make, of which `imported` gives the text.
-pub fn made<'a, R: FileSystem>(
-    rt: &R,
+pub fn made<'a, F: AnswerFolders>(
+    files: &F,
     input: &Input<'a>,
     answers: Answers<'_>,
 ) -> Result<MadeScript, ProgramError<'a>>
     ensures form { IfOk result (λ made. IsReadScript (script_view made.script)) }
     ensures little { IfOk result (λ made. little (script_view made.script).config (script_view made.script).turns ≡ Ok tt) }
+    ensures script { IfOk result (λ made. IsMadeBy (F.known files.now) input.now (signatures_of answers.entry) made.script) }
 {
-    let mut left_out = LeftOut::nothing(rt.alloc());
-    let fleet = fleet_of(rt, input, answers, &mut left_out)?;
-    scripted(rt.alloc(), fleet, answers, left_out)
+    let mut left_out = LeftOut::nothing(files.alloc());
+    let fleet = fleet_of(files, input, answers, &mut left_out)?;
+    scripted(files.alloc(), fleet, answers, left_out)
 }
 
 /// The setup of an input, with the answers in a folder.
-fn fleet_of<'a, R: FileSystem>(
-    rt: &R,
+fn fleet_of<'a, F: AnswerFolders>(
+    files: &F,
     input: &Input<'a>,
     answers: Answers<'_>,
     left_out: &mut LeftOut<'a>,
-) -> Result<Fleet, ProgramError<'a>> {
-    match read_setup(rt.alloc(), input.bytes()) {
-        Ok(setup) => read_fleet(rt, setup, answers, left_out),
+) -> Result<Fleet, ProgramError<'a>>
+    ensures { IfOk result (IsFleetOf (F.known files.now) input.now) }
+{
+    match read_setup(files.alloc(), input.bytes()) {
+        Ok(setup) => read_fleet(files, setup, answers, left_out),
         Err(error) => Err(ProgramError::of_setup(error, input)),
     }
 }
@@ -114,6 +125,7 @@ fn composed<'a>(
 }
 
 /// The script of which that is the text, and which may be bigger.
+#[tactic(auto, using(crate::proofs::Leaving::once))]
 fn scripted<'a>(
     alloc: Global,
     fleet: Fleet,
@@ -121,7 +133,7 @@ fn scripted<'a>(
     left_out: LeftOut<'a>,
 ) -> Result<MadeScript, ProgramError<'a>>
     ensures in_part { IfOk result (λ made. is_some left_out.entry.first ≡ true → made.status ≡ 7) }
-    ensures script { IfOk result (IsMadeOfRest fleet (signatures_of source.entry)) }
+    ensures script { IfOk result (IsMadeOfLeft fleet (signatures_of source.entry)) }
     ensures form { IfOk result (λ made. IsReadScript (script_view made.script)) }
     ensures little { IfOk result (λ made. little (script_view made.script).config (script_view made.script).turns ≡ Ok tt) }
 {
@@ -229,7 +241,9 @@ fn failure_at<'a>(
     alloc: Global,
     id: &str,
     error: ProgramError<'a>,
-) -> Result<Failure<'a>, ProgramError<'a>> {
+) -> Result<Failure<'a>, ProgramError<'a>>
+    ensures { IfOk result (λ failure. string_bytes failure.id ≡ id.now) }
+{
     match String::from_str(alloc, id) {
         Ok(id) => Ok(Failure { id, error }),
         Err(_) => Err(ProgramError::NoMemory),
@@ -244,7 +258,9 @@ fn refused<'a>(text: Result<String, AllocError>) -> ProgramError<'a> {
 }
 
 /// A setup without answers.
-fn without_answers(alloc: Global, setup: Setup) -> Fleet {
+fn without_answers(alloc: Global, setup: Setup) -> Fleet
+    ensures { result.setup ≡ setup }
+{
     let answers = SavedAnswers {
         chains: Vec::new(alloc),
         clients: Vec::new(alloc),
@@ -255,64 +271,102 @@ fn without_answers(alloc: Global, setup: Setup) -> Fleet {
 
 /// Reads the answers of the chains that clients track, of the clients and of the paths, each from the folder of its
 /// identifier.
-fn read_fleet<'a, R: FileSystem>(
-    rt: &R,
+fn read_fleet<'a, F: AnswerFolders>(
+    files: &F,
     setup: Setup,
     answers: Answers<'_>,
     left_out: &mut LeftOut<'a>,
-) -> Result<Fleet, ProgramError<'a>> {
-    let fleet = without_answers(rt.alloc(), setup);
-    let fleet = with_chains(rt, fleet, answers, left_out)?;
-    let fleet = with_clients(rt, fleet, answers, left_out)?;
-    with_paths(rt, fleet, answers, left_out)
+) -> Result<Fleet, ProgramError<'a>>
+    ensures rest { IfOk result (λ fleet. IsRestOf setup fleet.setup) }
+    ensures chains { IfOk result (ChainsHave (AreTold (F.known files.now))) }
+    ensures clients { IfOk result (ClientsHave (AreTold (F.known files.now))) }
+    ensures paths { IfOk result (PathsHave (AreTold (F.known files.now))) }
+{
+    let empty = without_answers(files.alloc(), setup);
+    let chains = with_chains(files, empty, answers, left_out)?;
+    let clients = with_clients(files, chains, answers, left_out)?;
+    with_paths(files, clients, answers, left_out)
 }
 
 /// The fleet with the answers of its chains, without what goes with those that are refused.
-fn with_chains<'a, R: FileSystem>(
-    rt: &R,
+fn with_chains<'a, F: AnswerFolders>(
+    files: &F,
     fleet: Fleet,
     answers: Answers<'_>,
     left_out: &mut LeftOut<'a>,
-) -> Result<Fleet, ProgramError<'a>> {
+) -> Result<Fleet, ProgramError<'a>>
+    ensures rest { IfOk result (λ left. IsRestOf fleet.setup left.setup) }
+    ensures chains { IfOk result (ChainsHave (AreTold (F.known files.now))) }
+{
     let mut fleet = fleet;
-    let mut failures = Vec::new(rt.alloc());
-    fleet.answers.chains = chain_answers(rt, &fleet.setup, answers, &mut failures)?;
-    without_all(rt.alloc(), fleet, failures, left_out)
+    let mut failures = Vec::new(files.alloc());
+    let chains = chain_answers(
+        files,
+        fleet.setup.chains.as_slice(),
+        &fleet.setup,
+        answers,
+        &mut failures,
+    )?;
+    fleet.answers.chains = chains;
+    without_all(files.alloc(), fleet, failures, left_out)
 }
 
 /// The same of its clients.
-fn with_clients<'a, R: FileSystem>(
-    rt: &R,
+fn with_clients<'a, F: AnswerFolders>(
+    files: &F,
     fleet: Fleet,
     answers: Answers<'_>,
     left_out: &mut LeftOut<'a>,
-) -> Result<Fleet, ProgramError<'a>> {
+) -> Result<Fleet, ProgramError<'a>>
+    requires chains { ChainsHave (AreTold (F.known files.now)) fleet }
+    ensures rest { IfOk result (λ left. IsRestOf fleet.setup left.setup) }
+    ensures chains { IfOk result (ChainsHave (AreTold (F.known files.now))) }
+    ensures clients { IfOk result (ClientsHave (AreTold (F.known files.now))) }
+{
     let mut fleet = fleet;
-    let mut failures = Vec::new(rt.alloc());
-    fleet.answers.clients = client_answers(rt, &fleet.setup, answers, &mut failures)?;
-    without_all(rt.alloc(), fleet, failures, left_out)
+    let mut failures = Vec::new(files.alloc());
+    let clients = client_answers(
+        files,
+        fleet.setup.chains.as_slice(),
+        fleet.setup.clients.as_slice(),
+        answers,
+        &mut failures,
+    )?;
+    fleet.answers.clients = clients;
+    without_all(files.alloc(), fleet, failures, left_out)
 }
 
 /// The same of its paths.
-fn with_paths<'a, R: FileSystem>(
-    rt: &R,
+fn with_paths<'a, F: AnswerFolders>(
+    files: &F,
     fleet: Fleet,
     answers: Answers<'_>,
     left_out: &mut LeftOut<'a>,
-) -> Result<Fleet, ProgramError<'a>> {
+) -> Result<Fleet, ProgramError<'a>>
+    requires chains { ChainsHave (AreTold (F.known files.now)) fleet }
+    requires clients { ClientsHave (AreTold (F.known files.now)) fleet }
+    ensures rest { IfOk result (λ left. IsRestOf fleet.setup left.setup) }
+    ensures chains { IfOk result (ChainsHave (AreTold (F.known files.now))) }
+    ensures clients { IfOk result (ClientsHave (AreTold (F.known files.now))) }
+    ensures paths { IfOk result (PathsHave (AreTold (F.known files.now))) }
+{
     let mut fleet = fleet;
-    let mut failures = Vec::new(rt.alloc());
-    fleet.answers.paths = path_answers(rt, &fleet.setup, answers, &mut failures)?;
-    without_all(rt.alloc(), fleet, failures, left_out)
+    let mut failures = Vec::new(files.alloc());
+    let paths = path_answers(files, fleet.setup.paths.as_slice(), answers, &mut failures)?;
+    fleet.answers.paths = paths;
+    without_all(files.alloc(), fleet, failures, left_out)
 }
 
 /// The fleet without what goes with each of these failures.
+#[tactic(auto, using(crate::proofs::Leaving::more_failed))]
 fn without_all<'a>(
     alloc: Global,
     fleet: Fleet,
     failures: Vec<Failure<'a>>,
     left_out: &mut LeftOut<'a>,
-) -> Result<Fleet, ProgramError<'a>> {
+) -> Result<Fleet, ProgramError<'a>>
+    ensures { IfOk result (IsLeftOf (failed failures.entry.items) fleet) }
+{
     let mut fleet = fleet;
     for failure in failures {
         fleet = left_out.without(alloc, fleet, failure)?;
@@ -321,48 +375,73 @@ fn without_all<'a>(
 }
 
 /// The answers of the chains, none of one that no client tracks.
-fn chain_answers<'a, R: FileSystem>(
-    rt: &R,
+fn chain_answers<'a, F: AnswerFolders>(
+    files: &F,
+    chains: &[ChainId],
     setup: &Setup,
     source: Answers<'_>,
     failures: &mut Vec<Failure<'a>>,
-) -> Result<Vec<Vec<Saved>>, ProgramError<'a>> {
-    let mut answers = Vec::new(rt.alloc());
-    for (place, chain) in setup.chains.iter().enumerate() {
-        let saved = if is_tracked(setup, place) {
-            answers_of(rt, source, chain.as_str(), 0, failures)?
-        } else {
-            Vec::new(rt.alloc())
-        };
+) -> Result<Vec<Vec<Saved>>, ProgramError<'a>>
+    ensures { IfOk result (λ answers. AllZip (ChainHas (OrFailed (AreTold (F.known files.now)) (failed failures.new.items)) setup.now.clients.items) (enumerate_from 0 chains.now) answers.items) }
+{
+    let mut answers = Vec::new(files.alloc());
+    for (place, chain) in chains.iter().enumerate() {
+        let is_needed = is_tracked(setup, place);
+        let saved = needed_answers(files, source, chain.as_str(), is_needed, failures)?;
         add(&mut answers, saved)?;
     }
     Ok(answers)
 }
 
-fn client_answers<'a, R: FileSystem>(
-    rt: &R,
-    setup: &Setup,
+/// The answers of a chain, if they are needed.
+fn needed_answers<'a, F: AnswerFolders>(
+    files: &F,
+    source: Answers<'_>,
+    id: &str,
+    is_needed: bool,
+    failures: &mut Vec<Failure<'a>>,
+) -> Result<Vec<Saved>, ProgramError<'a>>
+    ensures told { IfOk result (λ saved. is_needed ≡ true → OrFailed (AreTold (F.known files.now)) (failed failures.new.items) 0 id.now saved) }
+    ensures more { OnOk result (HasMore (failed failures.old.items) (failed failures.new.items)) }
+{
+    if is_needed {
+        answers_of(files, source, id, 0, failures)
+    } else {
+        Ok(Vec::new(files.alloc()))
+    }
+}
+
+/// The answers of clients.
+fn client_answers<'a, F: AnswerFolders>(
+    files: &F,
+    chains: &[ChainId],
+    clients: &[ClientSetup],
     source: Answers<'_>,
     failures: &mut Vec<Failure<'a>>,
-) -> Result<Vec<Vec<Saved>>, ProgramError<'a>> {
-    let mut answers = Vec::new(rt.alloc());
-    for client in &setup.clients {
-        let since = tracked_revision(setup.chains.as_slice(), client);
-        let saved = answers_of(rt, source, client.id.as_str(), since, failures)?;
+) -> Result<Vec<Vec<Saved>>, ProgramError<'a>>
+    ensures { IfOk result (λ answers. AllZip (ClientHas (OrFailed (AreTold (F.known files.now)) (failed failures.new.items)) chains.now) clients.now answers.items) }
+{
+    let mut answers = Vec::new(files.alloc());
+    for client in clients {
+        let since = tracked_revision(chains, client);
+        let saved = answers_of(files, source, client.id.as_str(), since, failures)?;
         add(&mut answers, saved)?;
     }
     Ok(answers)
 }
 
-fn path_answers<'a, R: FileSystem>(
-    rt: &R,
-    setup: &Setup,
+/// The answers of paths.
+fn path_answers<'a, F: AnswerFolders>(
+    files: &F,
+    paths: &[PathSetup],
     source: Answers<'_>,
     failures: &mut Vec<Failure<'a>>,
-) -> Result<Vec<Vec<Saved>>, ProgramError<'a>> {
-    let mut answers = Vec::new(rt.alloc());
-    for path in &setup.paths {
-        let saved = answers_of(rt, source, path.config.id.as_str(), 0, failures)?;
+) -> Result<Vec<Vec<Saved>>, ProgramError<'a>>
+    ensures { IfOk result (λ answers. AllZip (OrFailed (AreTold (F.known files.now)) (failed failures.new.items) 0) (path_ids paths.now) answers.items) }
+{
+    let mut answers = Vec::new(files.alloc());
+    for path in paths {
+        let saved = answers_of(files, source, path.config.id.as_str(), 0, failures)?;
         add(&mut answers, saved)?;
     }
     Ok(answers)
@@ -380,19 +459,22 @@ pub fn tracked_revision(chains: &[ChainId], client: &ClientSetup) -> u64
 
 /// The answers of a chain, a client or a path, of a client's records those of this revision and of later ones; none where
 /// they are refused, which is then a failure of it.
-fn answers_of<'a, R: FileSystem>(
-    rt: &R,
+fn answers_of<'a, F: AnswerFolders>(
+    files: &F,
     source: Answers<'_>,
     id: &str,
     since: u64,
     failures: &mut Vec<Failure<'a>>,
-) -> Result<Vec<Saved>, ProgramError<'a>> {
-    match read_folder(rt, source.folder, id, since, Votes::LeftOut) {
+) -> Result<Vec<Saved>, ProgramError<'a>>
+    ensures told { IfOk result (OrFailed (AreTold (F.known files.now)) (failed failures.new.items) since id.now) }
+    ensures more { OnOk result (HasMore (failed failures.old.items) (failed failures.new.items)) }
+{
+    match read_folder(files, id, since, Votes::LeftOut) {
         Ok(saved) => Ok(saved),
         Err(error) if source.is_all_or_nothing || !is_of_answers(&error) => Err(error),
         Err(error) => {
-            add(failures, failure_at(rt.alloc(), id, error)?)?;
-            Ok(Vec::new(rt.alloc()))
+            add(failures, failure_at(files.alloc(), id, error)?)?;
+            Ok(Vec::new(files.alloc()))
         }
     }
 }
@@ -422,20 +504,45 @@ pub enum Votes {
     LeftOut,
 }
 
-/// Reads the answers in the folder of an identifier: its files `*.json`, by name.
-pub fn read_folder<'a, R: FileSystem>(
-    rt: &R,
-    folder: &str,
+/// Reads the answers in the folder of an identifier, by their names.
+pub fn read_folder<'a, F: AnswerFolders>(
+    files: &F,
     id: &str,
     since: u64,
     votes: Votes,
-) -> Result<Vec<Saved>, ProgramError<'a>> {
-    let path = path_in(rt.alloc(), folder, id)?;
-    let names = match names_in(rt, path.as_str()) {
+) -> Result<Vec<Saved>, ProgramError<'a>>
+    ensures { IfOk result (λ saved. OfKnown (F.known files.now) (λ known. AreAnswersIn votes since id.now known saved.items)) }
+{
+    let names = match files.names(id) {
         Ok(names) => names,
-        Err(error) => return Err(ProgramError::of_file(rt.alloc(), path.as_str(), error)),
+        Err(error) => return Err(of_folder(files, id, error)),
     };
-    read_files(rt, path.as_str(), names.as_slice(), since, votes)
+    read_files(files, id, names.as_slice(), since, votes)
+}
+
+/// The error of a folder.
+pub fn of_folder<'a, F: AnswerFolders>(
+    files: &F,
+    folder: &str,
+    error: io::Error,
+) -> ProgramError<'a> {
+    match files.place(folder) {
+        Ok(path) => ProgramError::of_file(files.alloc(), path.as_str(), error),
+        Err(_) => ProgramError::NoMemory,
+    }
+}
+
+/// The error of a folder's file of this name.
+pub fn of_file<'a, F: AnswerFolders>(
+    files: &F,
+    folder: &str,
+    name: &str,
+    error: io::Error,
+) -> ProgramError<'a> {
+    match place_in(files, folder, name) {
+        Ok(file) => ProgramError::of_file(files.alloc(), file.as_str(), error),
+        Err(error) => error,
+    }
 }
 
 /// The path of what a folder has under a name.
@@ -446,34 +553,32 @@ pub fn path_in<'a>(alloc: Global, folder: &str, name: &str) -> Result<String, Pr
     }
 }
 
-/// The names of a folder's files `*.json`, in the order of their bytes.
-pub fn names_in<R: FileSystem>(rt: &R, path: &str) -> io::Result<Vec<String>> {
-    let mut names = Vec::new(rt.alloc());
-    for entry in fs::read_dir(rt, path)? {
-        let entry = entry?;
-        if entry.file_name().ends_with(".json") {
-            names.push(String::from_str(rt.alloc(), entry.file_name())?)?;
-        }
+/// What to call a folder's file of this name.
+fn place_in<'a, F: AnswerFolders>(
+    files: &F,
+    folder: &str,
+    name: &str,
+) -> Result<String, ProgramError<'a>> {
+    match files.place(folder) {
+        Ok(path) => path_in(files.alloc(), path.as_str(), name),
+        Err(_) => Err(ProgramError::NoMemory),
     }
-    names.sort_unstable();
-    Ok(names)
 }
 
 /// Reads the answers in files of a folder.
-fn read_files<'a, R: FileSystem>(
-    rt: &R,
+fn read_files<'a, F: AnswerFolders>(
+    files: &F,
     folder: &str,
     names: &[String],
     since: u64,
     votes: Votes,
-) -> Result<Vec<Saved>, ProgramError<'a>> {
-    let mut answers = Vec::new(rt.alloc());
+) -> Result<Vec<Saved>, ProgramError<'a>>
+    ensures { IfOk result (λ saved. OfKnown (F.known files.now) (λ known. AllZip (IsAnswerIn votes since folder.now known) (map string_bytes names.now) saved.items)) }
+{
+    let mut answers = Vec::new(files.alloc());
     for name in names {
-        let saved = read_file(rt, folder, name.as_str(), since)?;
-        match votes {
-            Votes::Kept => add(&mut answers, saved)?,
-            Votes::LeftOut => add(&mut answers, without_votes(rt.alloc(), saved))?,
-        }
+        let saved = read_file(files, folder, name.as_str(), since, votes)?;
+        add(&mut answers, saved)?;
     }
     Ok(answers)
 }
@@ -496,29 +601,37 @@ fn without_votes(alloc: Global, saved: Saved) -> Saved
 }
 
 /// Reads the answer in a file.
-fn read_file<'a, R: FileSystem>(
-    rt: &R,
+fn read_file<'a, F: AnswerFolders>(
+    files: &F,
     folder: &str,
     name: &str,
     since: u64,
+    votes: Votes,
 ) -> Result<Saved, ProgramError<'a>>
+    ensures answer { IfOk result (λ saved. OfKnown (F.known files.now) (λ known. IsAnswerIn votes since folder.now known name.now saved)) }
     ensures verdicts { IfOk result (λ saved. HasVerdicts saved.answer → name.now ≡ verdicts_file) }
 {
-    let file = path_in(rt.alloc(), folder, name)?;
-    match read_bytes(rt, file.as_str()) {
-        Ok(bytes) => saved_of(rt.alloc(), folder, name, bytes.as_slice(), since),
-        Err(error) if error.kind() == io::ErrorKind::OutOfMemory => {
-            Err(out_of_memory(rt.alloc(), file.as_str()))
+    let file = place_in(files, folder, name)?;
+    match files.read(folder, name) {
+        Ok(bytes) => {
+            let saved = saved_of(files.alloc(), file.as_str(), name, bytes.as_slice(), since)?;
+            match votes {
+                Votes::Kept => Ok(saved),
+                Votes::LeftOut => Ok(without_votes(files.alloc(), saved)),
+            }
         }
-        Err(error) => Err(ProgramError::of_file(rt.alloc(), file.as_str(), error)),
+        Err(error) if error.kind() == io::ErrorKind::OutOfMemory => {
+            Err(out_of_memory(files.alloc(), file.as_str()))
+        }
+        Err(error) => Err(ProgramError::of_file(files.alloc(), file.as_str(), error)),
     }
 }
 
-/// The answer that the bytes of a folder's file of this name hold, of a client's records those of this revision and of later
+/// The answer that the bytes of a file of this name hold, of a client's records those of this revision and of later
 /// ones. Verdicts count only in the file `verdicts.json`.
 fn saved_of<'a>(
     alloc: Global,
-    folder: &str,
+    file: &str,
     name: &str,
     bytes: &[u8],
     since: u64,
@@ -527,13 +640,12 @@ fn saved_of<'a>(
     ensures answer { IfOk result (λ saved. TellsIn name.now since bytes.now (answer_view saved.answer)) }
     ensures verdicts { IfOk result (λ saved. HasVerdicts saved.answer → name.now ≡ verdicts_file) }
 {
-    let file = path_in(alloc, folder, name)?;
-    let Ok(shown) = shown_text(alloc, file.as_str()) else {
+    let Ok(shown) = shown_text(alloc, file) else {
         return Err(ProgramError::NoMemory);
     };
     match read_saved(alloc, shown, bytes, since) {
         Ok(saved) => Ok(in_file(saved, name)),
-        Err(SavedError::NoMemory) => Err(out_of_memory(alloc, file.as_str())),
+        Err(SavedError::NoMemory) => Err(out_of_memory(alloc, file)),
         Err(SavedError::Invalid { file, flaw, said }) => {
             Err(refused_file(alloc, file.as_str(), flaw, said.as_str()))
         }
@@ -586,8 +698,4 @@ fn out_of_memory<'a>(alloc: Global, file: &str) -> ProgramError<'a> {
     refused(format!(in alloc;
         "refused OutOfMemory at -\n{file}: the system gives no memory to read it (as `ulimit -v` bounds it); give more, or ask for fewer on a page (per_page=20)"
     ))
-}
-
-pub fn read_bytes<R: FileSystem>(rt: &R, path: &str) -> io::Result<Vec<u8>> {
-    bytes_of(rt.alloc(), File::open(rt, path)?)
 }

@@ -1,8 +1,9 @@
 //! What is left of a fleet without the clients and the paths whose answers are refused, and the lines that tell of those.
 ghost use Rattle.std.specs.Prelude.{◌≡◌, ◌<◌, ◌≤◌, ◌==◌, IfOk, OnOk, false, filter, get_or, is_some, string_bytes, true};
-ghost use Rattle.std.specs.List.{items_where_true, list_any};
+ghost use Rattle.std.specs.List.{AllZip, enumerate_from, items_where_true, list_any};
 ghost use Rattle.rb_import_setup.specs.Rests.{client_stays};
 ghost use Rattle.ibcplan_folders.specs.LeftOut.{clients_stay, import_status, object_count, paths_stay};
+ghost use Rattle.ibcplan_folders.specs.Leavings.{IsFleetWithout, IsLeft, StaysTracked};
 
 use ibcplan_cli::{ProgramError, status};
 use rb_import_check::{Saved, SavedAnswers};
@@ -72,6 +73,7 @@ impl<'a> LeftOut<'a> {
     ) -> Result<Fleet, ProgramError<'a>>
         ensures fewer { IfOk result (λ rest. object_count rest < object_count fleet) }
         ensures told { OnOk result (is_some self.new.first ≡ true) }
+        ensures left { IfOk result (IsFleetWithout (string_bytes failure.entry.id) fleet) }
     {
         let count = object_count(&fleet);
         let Ok(rest) = rest_of(alloc, fleet, &failure, &mut self.lines) else {
@@ -90,6 +92,7 @@ impl<'a> LeftOut<'a> {
     }
 
     /// The fleet without what goes with some failures. What goes with the first of two goes with the first alone.
+    #[tactic(auto, using(crate::proofs::Leaving::once))]
     pub fn without_all(
         &mut self,
         alloc: Global,
@@ -98,6 +101,7 @@ impl<'a> LeftOut<'a> {
     ) -> Result<Fleet, ProgramError<'a>>
         ensures fewer { IfOk result (λ rest. object_count rest < object_count fleet) }
         ensures told { OnOk result (is_some self.new.first ≡ true) }
+        ensures left { IfOk result (IsLeft fleet) }
     {
         let Failures { first, others } = failures;
         let mut rest = self.without(alloc, fleet, first)?;
@@ -116,6 +120,7 @@ impl<'a> LeftOut<'a> {
     ) -> Result<Fleet, ProgramError<'a>>
         ensures not_more { IfOk result (λ rest. object_count rest ≤ object_count fleet) }
         ensures told { OnOk result (self.new.first ≡ self.old.first) }
+        ensures left { IfOk result (IsFleetWithout (string_bytes failure.entry.id) fleet) }
     {
         let Ok(rest) = rest_of(alloc, fleet, &failure, &mut self.lines) else {
             return Err(ProgramError::NoMemory);
@@ -144,6 +149,7 @@ fn rest_of(
     ensures not_more { IfOk result (λ rest. object_count rest ≤ object_count fleet) }
     ensures clients { IfOk result (λ rest. rest.setup.clients.items ≡ filter (client_stays fleet.setup.chains.items (string_bytes failure.now.id)) fleet.setup.clients.items) }
     ensures of_clients { IfOk result (λ rest. rest.answers.clients.items ≡ items_where_true (clients_stay fleet (string_bytes failure.now.id)) fleet.answers.clients.items) }
+    ensures left { IfOk result (IsFleetWithout (string_bytes failure.now.id) fleet) }
     ensures of_paths { IfOk result (λ rest. rest.answers.paths.items ≡ items_where_true (paths_stay fleet (string_bytes failure.now.id)) fleet.answers.paths.items) }
 {
     let Fleet { setup, answers } = fleet;
@@ -155,7 +161,7 @@ fn rest_of(
         paths,
     } = answers;
     let answers = SavedAnswers {
-        chains: tracked(chains, &rest.setup),
+        chains: tracked(alloc, chains, &rest.setup)?,
         clients: left(alloc, clients, rest.clients.as_slice())?,
         paths: left(alloc, paths, rest.paths.as_slice())?,
     };
@@ -196,14 +202,28 @@ fn add_line(
 }
 
 /// The answers of each chain, none of one that no client tracks.
-fn tracked(answers: Vec<Vec<Saved>>, setup: &Setup) -> Vec<Vec<Saved>> {
-    let mut answers = answers;
-    for (place, saved) in answers.iter_mut().enumerate() {
-        if !is_tracked(setup, place) {
-            saved.clear();
-        }
+fn tracked(
+    alloc: Global,
+    answers: Vec<Vec<Saved>>,
+    setup: &Setup,
+) -> Result<Vec<Vec<Saved>>, AllocError>
+    ensures { IfOk result (λ left. AllZip (StaysTracked setup.now.clients.items) (enumerate_from 0 answers.items) left.items) }
+{
+    let mut left = Vec::new(alloc);
+    let mut place = 0;
+    for saved in answers {
+        let stays = is_tracked(setup, place);
+        left.push(kept(alloc, saved, stays))?;
+        place += 1;
     }
-    answers
+    Ok(left)
+}
+
+/// Answers that stay, else none.
+fn kept(alloc: Global, saved: Vec<Saved>, stays: bool) -> Vec<Saved>
+    ensures { stays ≡ true → result ≡ saved }
+{
+    if stays { saved } else { Vec::new(alloc) }
 }
 
 /// Whether a client tracks the chain at a place.

@@ -1,9 +1,12 @@
 //! The files of messages: the answers on chains are read, and a new folder is filled.
-ghost use Rattle.std.specs.Prelude.{◌≡◌, IfOk, map, string_bytes};
+ghost use Rattle.std.specs.Prelude.{◌≡◌, IfOk, map, string_bytes, true};
 ghost use Rattle.std.specs.List.{enumerate_from};
 ghost use Rattle.rb_messages.specs.Names.{file_name};
-ghost use Rattle.ibcplan_folders.specs.Messages.{AreMessagesBy};
+ghost use Rattle.ibcplan_folders.specs.Folders.{AreAnswersIn, OfKnown};
+ghost use Rattle.ibcplan_folders.specs.Messages.{AreAnswersOn, AreMessagesBy, is_updated};
+ghost use Rattle.ibcplan_folders.specs.declared.importing.Votes.TheVariants.{Kept};
 
+use crate::answer_folders::AnswerFolders;
 use crate::file_system::FileSystem;
 use crate::importing::{Votes, add, path_in, read_folder};
 use ibcplan_cli::ProgramError;
@@ -17,26 +20,41 @@ use std::alloc::{AllocError, Global};
 use std::fs;
 
 /// The answers on each chain, from the folder of its identifier; none on a chain that no update is of.
-pub fn read_answers<'a, R: FileSystem>(
-    rt: &R,
-    folder: &str,
+pub fn read_answers<'a, F: AnswerFolders>(
+    files: &F,
     chains: &[ChainId],
     updates: &[PlannedUpdate],
-) -> Result<Vec<Vec<Saved>>, ProgramError<'a>> {
-    let mut answers = Vec::new(rt.alloc());
+) -> Result<Vec<Vec<Saved>>, ProgramError<'a>>
+    ensures { IfOk result (λ answers. OfKnown (F.known files.now) (λ known. AreAnswersOn known updates.now chains.now answers.items)) }
+{
+    let mut answers = Vec::new(files.alloc());
     for (place, chain) in chains.iter().enumerate() {
-        let one = if is_updated(updates, place) {
-            read_folder(rt, folder, chain.as_str(), 0, Votes::Kept)?
-        } else {
-            Vec::new(rt.alloc())
-        };
+        let is_needed = is_updated(updates, place);
+        let one = answers_on(files, chain.as_str(), is_needed)?;
         add(&mut answers, one)?;
     }
     Ok(answers)
 }
 
+/// The answers on a chain, if they are needed.
+fn answers_on<'a, F: AnswerFolders>(
+    files: &F,
+    chain: &str,
+    is_needed: bool,
+) -> Result<Vec<Saved>, ProgramError<'a>>
+    ensures { IfOk result (λ saved. OfKnown (F.known files.now) (λ known. is_needed ≡ true → AreAnswersIn Kept 0 chain.now known saved.items)) }
+{
+    if is_needed {
+        read_folder(files, chain, 0, Votes::Kept)
+    } else {
+        Ok(Vec::new(files.alloc()))
+    }
+}
+
 /// Whether one of the updates is of the chain at a place.
-fn is_updated(updates: &[PlannedUpdate], place: usize) -> bool {
+fn is_updated(updates: &[PlannedUpdate], place: usize) -> bool
+    ensures { result ≡ is_updated updates.now place }
+{
     updates.iter().any(|update| update.chain == place)
 }
 

@@ -5,10 +5,10 @@ ghost use Rattle.rb_import_answers.specs.Revisions.{IsRevision};
 ghost use Rattle.rb_packet_messages.specs.Ends.{ends_in};
 ghost use Rattle.rb_packet_messages.specs.Facts.{AreFactsIn, answer_view, facts_view};
 ghost use Rattle.rb_packet_messages.specs.Messages.{due_view};
-ghost use Rattle.ibcplan_folders.specs.Packets.{ArePacketTexts, IsDue, IsTextOf, StandFor, StandsFor, WasRead, WereRead, answers_at};
+ghost use Rattle.ibcplan_folders.specs.Packets.{ArePacketTexts, IsDue, IsTextOf, StandFor, StandsFor, WasRead, WereRead, WereReadOf, answers_at};
 
-use crate::file_system::FileSystem;
-use crate::importing::{add, names_in, path_in, read_bytes};
+use crate::answer_folders::AnswerFolders;
+use crate::importing::{add, of_file, of_folder, path_in};
 use ibcplan_cli::{ProgramError, shown_text};
 use rb_base::ChainId;
 use rb_import_answers::revision_of;
@@ -42,11 +42,10 @@ struct Lines {
     left_out: String,
 }
 
-/// What the messages of a batch are made of: the folder of the answers, the configuration, what the folder of each path
+/// What the messages of a batch are made of: the configuration, what the folder of each path
 /// tells, the batch, and the account that signs.
 #[derive(Clone, Copy)]
 struct Source<'s> {
-    folder: &'s str,
     config: &'s Config,
     answers: &'s [Vec<PathAnswer>],
     batch: &'s PlannedBatch,
@@ -86,24 +85,23 @@ struct Stop {
 }
 
 /// The packet messages of batches, as far as somebody sends to their hosts, by the answers in a folder.
-pub fn packet_texts<'a, R: FileSystem>(
-    rt: &R,
-    folder: &str,
+pub fn packet_texts<'a, F: AnswerFolders>(
+    files: &F,
     config: &Config,
     senders: &[Option<Sender>],
     batches: &[PlannedBatch],
 ) -> Result<PacketTexts, ProgramError<'a>>
-    ensures { IfOk result (λ packets. ArePacketTexts config.now senders.now batches.now packets.texts.items) }
+    ensures { IfOk result (λ packets. ArePacketTexts (F.known files.now) config.now senders.now batches.now packets.texts.items) }
 {
-    let read = path_answers(rt, folder, config.paths.as_slice(), senders, batches)?;
+    let read = path_answers(files, config.paths.as_slice(), senders, batches)?;
     let answers = read.as_slice();
-    let mut texts = Vec::new(rt.alloc());
+    let mut texts = Vec::new(files.alloc());
     let mut lines = Lines {
-        wanted: String::new(rt.alloc()),
-        left_out: String::new(rt.alloc()),
+        wanted: String::new(files.alloc()),
+        left_out: String::new(files.alloc()),
     };
     for batch in batches {
-        let own = texts_of(rt, folder, config, senders, answers, batch, &mut lines)?;
+        let own = texts_of(files, config, senders, answers, batch, &mut lines)?;
         add(&mut texts, own)?;
     }
     let Lines { wanted, left_out } = lines;
@@ -115,9 +113,8 @@ pub fn packet_texts<'a, R: FileSystem>(
 }
 
 /// The texts of the packet messages of a batch; none where nobody sends to its host.
-fn texts_of<'a, R: FileSystem>(
-    rt: &R,
-    folder: &str,
+fn texts_of<'a, F: AnswerFolders>(
+    files: &F,
     config: &Config,
     senders: &[Option<Sender>],
     answers: &[Vec<PathAnswer>],
@@ -129,32 +126,30 @@ fn texts_of<'a, R: FileSystem>(
     match sender_to(senders, batch.host) {
         Some(sender) => {
             let source = Source {
-                folder,
                 config,
                 answers,
                 batch,
                 signer: sender.signer.as_str(),
             };
-            batch_texts(rt, &source, lines)
+            batch_texts(files, &source, lines)
         }
-        None => Ok(Vec::new(rt.alloc())),
+        None => Ok(Vec::new(files.alloc())),
     }
 }
 
 /// What the folder of each path tells of packets; nothing of a path that no message is of.
-fn path_answers<'a, R: FileSystem>(
-    rt: &R,
-    folder: &str,
+fn path_answers<'a, F: AnswerFolders>(
+    files: &F,
     paths: &[PathConfig],
     senders: &[Option<Sender>],
     batches: &[PlannedBatch],
 ) -> Result<Vec<Vec<PathAnswer>>, ProgramError<'a>>
-    ensures { IfOk result (λ answers. All WereRead answers.items) }
+    ensures { IfOk result (λ answers. AllZip (WereReadOf (F.known files.now)) paths.now answers.items) }
 {
-    let mut answers = Vec::new(rt.alloc());
+    let mut answers = Vec::new(files.alloc());
     for (place, path) in paths.iter().enumerate() {
         let is_needed = is_sent_on(senders, batches, place);
-        let told = answers_on(rt, folder, path.id.as_str(), is_needed)?;
+        let told = answers_on(files, path.id.as_str(), is_needed)?;
         add(&mut answers, told)?;
     }
     Ok(answers)
@@ -169,70 +164,72 @@ fn is_sent_on(senders: &[Option<Sender>], batches: &[PlannedBatch], path: usize)
 }
 
 /// The answers to `/tx_search` in the folder of a path, in the order of their files' names; none where they aren't needed.
-fn answers_on<'a, R: FileSystem>(
-    rt: &R,
-    folder: &str,
+fn answers_on<'a, F: AnswerFolders>(
+    files: &F,
     id: &str,
     is_needed: bool,
 ) -> Result<Vec<PathAnswer>, ProgramError<'a>>
-    ensures { IfOk result WereRead }
+    ensures { IfOk result (WereRead (F.known files.now) id.now) }
 {
-    let mut answers = Vec::new(rt.alloc());
+    let mut answers = Vec::new(files.alloc());
     if !is_needed {
         return Ok(answers);
     }
-    let path = path_in(rt.alloc(), folder, id)?;
-    let names = match names_in(rt, path.as_str()) {
+    let names = match files.names(id) {
         Ok(names) => names,
-        Err(error) => return Err(ProgramError::of_file(rt.alloc(), path.as_str(), error)),
+        Err(error) => return Err(of_folder(files, id, error)),
     };
     for name in &names {
-        let file = path_in(rt.alloc(), path.as_str(), name.as_str())?;
-        add_answer(rt, file.as_str(), &mut answers)?;
+        add_answer(files, id, name.as_str(), &mut answers)?;
     }
     Ok(answers)
 }
 
-/// Adds the answer in a file, if it is one to `/tx_search`.
-fn add_answer<'a, R: FileSystem>(
-    rt: &R,
-    file: &str,
+/// Adds the answer in a folder's file, if it is one to `/tx_search`.
+fn add_answer<'a, F: AnswerFolders>(
+    files: &F,
+    folder: &str,
+    name: &str,
     answers: &mut Vec<PathAnswer>,
 ) -> Result<(), ProgramError<'a>>
-    ensures { OnOk result (WereRead answers.old → WereRead answers.new) }
+    ensures { OnOk result (WereRead (F.known files.now) folder.now answers.old → WereRead (F.known files.now) folder.now answers.new) }
 {
-    match answer_in(rt, file)? {
+    match answer_in(files, folder, name)? {
         Some(answer) => add(answers, answer),
         None => Ok(()),
     }
 }
 
-/// The answer in a file, if it is one to `/tx_search`.
-fn answer_in<'a, R: FileSystem>(rt: &R, file: &str) -> Result<Option<PathAnswer>, ProgramError<'a>>
-    ensures { IfOk result (λ read. IfSome read WasRead) }
+/// The answer in a folder's file, if it is one to `/tx_search`.
+fn answer_in<'a, F: AnswerFolders>(
+    files: &F,
+    folder: &str,
+    name: &str,
+) -> Result<Option<PathAnswer>, ProgramError<'a>>
+    ensures { IfOk result (λ read. IfSome read (WasRead (F.known files.now) folder.now)) }
 {
-    let bytes = match read_bytes(rt, file) {
+    let bytes = match files.read(folder, name) {
         Ok(bytes) => bytes,
-        Err(error) => return Err(ProgramError::of_file(rt.alloc(), file, error)),
+        Err(error) => return Err(of_file(files, folder, name, error)),
     };
-    match read_path_answer(rt.alloc(), bytes.as_slice()) {
+    match read_path_answer(files.alloc(), bytes.as_slice()) {
         Ok(read) => Ok(read),
         Err(_) => Err(ProgramError::NoMemory),
     }
 }
 
 /// The texts of the packet messages of a batch; what else comes of them is told.
-fn batch_texts<'a, R: FileSystem>(
-    rt: &R,
+fn batch_texts<'a, F: AnswerFolders>(
+    files: &F,
     source: &Source<'_>,
     lines: &mut Lines,
 ) -> Result<Vec<Option<String>>, ProgramError<'a>>
     ensures { IfOk result (λ texts. AllZip (StandsFor source.now.config.now source.now.batch.now source.now.answers.now source.now.signer.now) source.now.batch.now.messages.items texts.items) }
 {
-    let mut texts = Vec::new(rt.alloc());
-    let mut stops = Vec::new(rt.alloc());
+    let mut texts = Vec::new(files.alloc());
+    let mut stops = Vec::new(files.alloc());
     for message in &source.batch.messages {
-        let text = text_for(rt, source, message, &mut stops, lines)?;
+        let text = text_for(files, source, message, &mut stops, lines)?;
         add(&mut texts, text)?;
     }
     Ok(texts)
@@ -240,8 +237,8 @@ fn batch_texts<'a, R: FileSystem>(
 
 /// The text of a packet message; what else comes of it is told. On an ORDERED path nothing is made behind a message of the
 /// same kind that is left out.
-fn text_for<'a, R: FileSystem>(
-    rt: &R,
+fn text_for<'a, F: AnswerFolders>(
+    files: &F,
     source: &Source<'_>,
     message: &Message,
     stops: &mut Vec<Stop>,
@@ -252,7 +249,7 @@ fn text_for<'a, R: FileSystem>(
     let Some(path) = source.config.paths.get(message.path()) else {
         return Ok(None);
     };
-    match outcome_of(rt, source, path, message, stops.as_slice())? {
+    match outcome_of(files, source, path, message, stops.as_slice())? {
         Ok(text) => Ok(Some(text)),
         Err(unmade) => {
             if matches!(unmade, Unmade::LeftOut { .. }) && path.order == Order::Ordered {
@@ -318,8 +315,8 @@ fn kind_word(kind: Kind) -> &'static str {
 
 /// The text of a message of a path, or why it isn't made: none is made behind one of its kind that is left out.
 #[tactic(auto, using(crate::proofs::Told::proven_text))]
-fn outcome_of<'a, R: FileSystem>(
-    rt: &R,
+fn outcome_of<'a, F: AnswerFolders>(
+    files: &F,
     source: &Source<'_>,
     path: &PathConfig,
     message: &Message,
@@ -328,27 +325,27 @@ fn outcome_of<'a, R: FileSystem>(
     ensures { IfOk result (λ outcome. IfOk outcome (λ text. IsTextOf source.now.config.now source.now.batch.now (answers_at source.now.answers.now message.now.path) source.now.signer.now path.now message.now (string_bytes text))) }
 {
     if is_behind(stops, message.path(), message.packet().kind) {
-        return not_made(rt.alloc(), source, path, None, PacketError::Behind);
+        return not_made(files, path, None, PacketError::Behind);
     }
-    let known = match known_of(rt.alloc(), source, path, message) {
+    let known = match known_of(files.alloc(), source, path, message) {
         Ok(known) => known,
-        Err(error) => return not_made(rt.alloc(), source, path, None, error),
+        Err(error) => return not_made(files, path, None, error),
     };
     let due = due_of(source, path, message, &known);
-    let Ok(request) = request_of(rt.alloc(), &due) else {
+    let Ok(request) = request_of(files.alloc(), &due) else {
         return Err(ProgramError::NoMemory);
     };
     let file = request.file.as_str();
-    match proof_answer(rt, source.folder, path.id.as_str(), file)? {
+    match proof_answer(files, path.id.as_str(), file)? {
         ProofAnswer::Missing => Ok(Err(Unmade::Wanted(request))),
         ProofAnswer::Refused => {
             let error = PacketError::NodeRefused;
-            not_made(rt.alloc(), source, path, Some(file), error)
+            not_made(files, path, Some(file), error)
         }
         ProofAnswer::There(bytes) => {
-            match message_text(rt.alloc(), &due, source.signer, bytes.as_slice()) {
+            match message_text(files.alloc(), &due, source.signer, bytes.as_slice()) {
                 Ok(text) => Ok(Ok(text)),
-                Err(error) => not_made(rt.alloc(), source, path, Some(file), error),
+                Err(error) => not_made(files, path, Some(file), error),
             }
         }
     }
@@ -378,9 +375,8 @@ fn due_of<'k>(
 }
 
 /// That a message is left out, by what stands in a file of a path's proofs, or else in the path's folder.
-fn not_made<'a>(
-    alloc: Global,
-    source: &Source<'_>,
+fn not_made<'a, F: AnswerFolders>(
+    files: &F,
     path: &PathConfig,
     file: Option<&str>,
     error: PacketError,
@@ -390,24 +386,26 @@ fn not_made<'a>(
     if error == PacketError::NoMemory {
         return Err(ProgramError::NoMemory);
     }
-    match place_of(alloc, source.folder, path.id.as_str(), file) {
+    match place_of(files, path.id.as_str(), file) {
         Ok(place) => Ok(Err(Unmade::LeftOut { place, error })),
         Err(_) => Err(ProgramError::NoMemory),
     }
 }
 
 /// A file of a path's proofs, or the path's folder, as messages show it.
-fn place_of(
-    alloc: Global,
-    folder: &str,
+fn place_of<F: AnswerFolders>(
+    files: &F,
     path: &str,
     file: Option<&str>,
 ) -> Result<String, AllocError> {
-    let place = match file {
-        Some(file) => format!(in alloc; "{folder}/{path}/proofs/{file}")?,
-        None => format!(in alloc; "{folder}/{path}")?,
-    };
-    shown_text(alloc, place.as_str())
+    let path = files.place(path)?;
+    match file {
+        Some(file) => {
+            let place = format!(in files.alloc(); "{path}/proofs/{file}")?;
+            shown_text(files.alloc(), place.as_str())
+        }
+        None => shown_text(files.alloc(), path.as_str()),
+    }
 }
 
 /// What is known of the packet of a message.
@@ -459,36 +457,34 @@ fn proof_height(chains: &[ChainId], batch: &PlannedBatch) -> RevisionHeight
 }
 
 /// What a node answered whose answer is kept in a file of a path's proofs.
-fn proof_answer<'a, R: FileSystem>(
-    rt: &R,
-    folder: &str,
+fn proof_answer<'a, F: AnswerFolders>(
+    files: &F,
     path: &str,
     file: &str,
 ) -> Result<ProofAnswer, ProgramError<'a>> {
-    let path = path_in(rt.alloc(), folder, path)?;
-    let proofs = path_in(rt.alloc(), path.as_str(), "proofs")?;
-    let answer = path_in(rt.alloc(), proofs.as_str(), file)?;
-    match read_bytes(rt, answer.as_str()) {
+    let proofs = path_in(files.alloc(), path, "proofs")?;
+    match files.read(proofs.as_str(), file) {
         Ok(bytes) => Ok(ProofAnswer::There(bytes)),
         Err(error) if error.kind() == io::ErrorKind::NotFound => {
-            refused_answer(rt, answer.as_str())
+            refused_answer(files, proofs.as_str(), file)
         }
-        Err(error) => Err(ProgramError::of_file(rt.alloc(), answer.as_str(), error)),
+        Err(error) => Err(of_file(files, proofs.as_str(), file, error)),
     }
 }
 
 /// Whether a node refused to answer: the file stands there with another ending.
-fn refused_answer<'a, R: FileSystem>(
-    rt: &R,
-    answer: &str,
+fn refused_answer<'a, F: AnswerFolders>(
+    files: &F,
+    proofs: &str,
+    file: &str,
 ) -> Result<ProofAnswer, ProgramError<'a>> {
-    let name = answer.strip_suffix(".json").unwrap_or(answer);
-    let Ok(refused) = format!(in rt.alloc(); "{name}.refused") else {
+    let name = file.strip_suffix(".json").unwrap_or(file);
+    let Ok(refused) = format!(in files.alloc(); "{name}.refused") else {
         return Err(ProgramError::NoMemory);
     };
-    match read_bytes(rt, refused.as_str()) {
+    match files.read(proofs, refused.as_str()) {
         Ok(_) => Ok(ProofAnswer::Refused),
         Err(error) if error.kind() == io::ErrorKind::NotFound => Ok(ProofAnswer::Missing),
-        Err(error) => Err(ProgramError::of_file(rt.alloc(), refused.as_str(), error)),
+        Err(error) => Err(of_file(files, proofs, refused.as_str(), error)),
     }
 }

@@ -1,12 +1,13 @@
 //! What is to be fetched next: the files of a folder are read, as far as they are there.
 use crate::file_system::FileSystem;
-use crate::importing::{add, path_in, read_bytes, tracked_revision};
+use crate::importing::{add, path_in, tracked_revision};
 use crate::left_out::is_tracked;
-use ibcplan_cli::{Input, ProgramError};
+use ibcplan_cli::{Input, ProgramError, bytes_of};
 use rb_import_setup::{Setup, read_setup};
 use rb_want::wanted_of;
 use rb_want_requests::{Content, Folder, Folders, Wanted, content_of};
 use std::alloc::{AllocError, Global};
+use std::fs::File;
 use std::{fs, io};
 
 /// The lines that tell what is to be fetched next, and those that tell of which clients no more is asked though they aren't
@@ -191,11 +192,15 @@ fn read_content<'a, R: FileSystem>(
     request: &str,
     since: u64,
 ) -> Result<Content, ProgramError<'a>> {
-    match read_bytes(rt, file) {
+    match bytes_at(rt, file) {
         Ok(bytes) => Ok(contents_of(rt.alloc(), request, bytes.as_slice(), since)),
         Err(error) if error.kind() == io::ErrorKind::OutOfMemory => Ok(Content::Other),
         Err(error) => Err(ProgramError::of_file(rt.alloc(), file, error)),
     }
+}
+
+fn bytes_at<R: FileSystem>(rt: &R, path: &str) -> io::Result<Vec<u8>> {
+    bytes_of(rt.alloc(), File::open(rt, path)?)
 }
 
 fn contents_of(alloc: Global, request: &str, bytes: &[u8], since: u64) -> Content {

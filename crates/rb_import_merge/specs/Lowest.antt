@@ -1,4 +1,4 @@
--- (internal) The order in which the lowest events of each kind and sequence are taken.
+-- The order in which the lowest events of each kind and sequence are taken.
 use Rattle.std.specs.Prelude.{◌≡◌, List, Any}
 use Rattle.std.specs.Ordering.{nat_cmp, ordering_then}
 use Rattle.std.specs.declared.cmp.Ordering.{Ordering}

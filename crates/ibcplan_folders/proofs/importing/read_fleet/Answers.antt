@@ -1,0 +1,14 @@
+use Rattle.std.proofs.Common.{subst}
+use Rattle.rb_import_setup.specs.declared.setup.Setup.{Setup}
+use Rattle.ibcplan_folders.specs.Fleets.{IsRestOf}
+use Rattle.ibcplan_folders.proofs.Leaving.{if_ok, rest_after}
+use Rattle.ibcplan_folders.proofs.importing.read_fleet.Goals as goal
+
+pub returns-clause-rest : goal.returns-clause-rest
+returns-clause-rest g c =
+    let setup = c.args.setup in
+    let chains = c.in_ok-chains.chains.setup in
+    let clients = c.in_ok-clients.clients.setup in
+    let whole : IsRestOf setup chains = subst (λ (s : Setup). IsRestOf s chains) c.without_answers-empty.ensures c.in_ok-chains.ensures.rest in
+    if_ok (λ f. IsRestOf clients f.setup) (λ f. IsRestOf setup f.setup) c.with_paths.result
+    (λ f rest. rest_after setup clients f.setup (rest_after setup chains clients whole c.in_ok-clients.ensures.rest) rest) c.with_paths.ensures.rest
