@@ -1,5 +1,5 @@
 -- What is made of what is left: of the whole fleet, where nothing is left out.
-use Rattle.std.proofs.Common.{◌≡◌, ℕ, List, Bool, true, false, if◌then◌else◌, Ok, Err, refl, sym, ap, ◌∙◌, subst, arith}
+use Rattle.std.proofs.Common.{◌≡◌, ℕ, Bool, true, false, if◌then◌else◌, Ok, Err, refl, sym, ap, ◌∙◌, subst, arith}
 use Rattle.std.specs.Prelude.{Result, String, IfOk, is_some, string_bytes}
 use Rattle.std.specs.Global.{Global}
 use Rattle.rb_import.specs.Openings.{Opens, hold_verdicts}
