@@ -1,5 +1,5 @@
 -- What is left of a fleet has the answers that the whole one had.
-use Rattle.std.proofs.Common.{◌≡◌, ◌⊎◌, ℕ, ◌+◌, ◌==◌, suc, List, [], ◌∷◌, ◌++◌, Bool, true, false, cond, get_or, inl, inr, length, take, zero, ◌<◌, ◌≤◌, map, refl, sym, ap, subst, ◌∙◌, arith}
+use Rattle.std.proofs.Common.{◌≡◌, ℕ, ◌+◌, ◌==◌, suc, List, [], ◌∷◌, ◌++◌, Bool, true, false, cond, get_or, inl, inr, length, take, zero, ◌<◌, ◌≤◌, map, refl, sym, ap, subst, ◌∙◌, arith}
 use Rattle.std.specs.Prelude.{filter, not, ◌&&◌, ◌||◌, Vec, slice_get, is_some, string_bytes, Option, Some, None, Result, Ok, Err, IfOk}
 use Rattle.std.specs.Global.{Global}
 use Rattle.std.specs.List.{AllZip, enumerate_from, items_where_true}

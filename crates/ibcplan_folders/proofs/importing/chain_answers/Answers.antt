@@ -1,4 +1,4 @@
-use Rattle.std.proofs.Common.{◌≡◌, List, ℕ, true, subst, sym, ◌∙◌}
+use Rattle.std.proofs.Common.{List, ℕ, subst, ◌∙◌}
 use Rattle.ibcplan_folders.specs.Fleets.{AreTold, ChainHas}
 use Rattle.ibcplan_folders.specs.Leavings.{OrFailed, failed}
 use Rattle.rb_messages.proofs.Zipped.{placed_all}

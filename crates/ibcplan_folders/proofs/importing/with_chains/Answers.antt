@@ -1,13 +1,9 @@
 use Rattle.std.proofs.Common.{List, ℕ, subst}
-use Rattle.std.specs.Prelude.{Vec}
-use Rattle.std.specs.Global.{Global}
 use Rattle.std.specs.List.{AllZip, enumerate_from}
-use Rattle.rb_import_setup.specs.declared.setup.ClientSetup.{ClientSetup}
-use Rattle.rb_import_setup.specs.declared.setup.PathSetup.{PathSetup}
-use Rattle.ibcplan_folders.specs.Fleets.{AreTold, ChainHas, ChainsHave, ClientHas, ClientsHave, IsRestOf, PathsHave, path_ids}
+use Rattle.ibcplan_folders.specs.Fleets.{AreTold, ChainHas, ChainsHave, IsRestOf}
 use Rattle.ibcplan_folders.specs.Leavings.{IsLeftOf, OrFailed, failed}
 use Rattle.ibcplan_folders.specs.declared.left_out.Fleet.{Fleet}
-use Rattle.ibcplan_folders.proofs.Leaving.{chains_left, chains_stay, clients_left, clients_stay, if_ok, paths_left, rest_of_left}
+use Rattle.ibcplan_folders.proofs.Leaving.{chains_left, if_ok, rest_of_left}
 use Rattle.ibcplan_folders.proofs.importing.with_chains.Goals as goal
 
 pub returns-clause-rest : goal.returns-clause-rest

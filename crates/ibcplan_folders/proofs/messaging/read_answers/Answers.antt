@@ -1,5 +1,4 @@
-use Rattle.std.proofs.Common.{◌≡◌, List, ℕ, subst, true}
-use Rattle.ibcplan_folders.specs.Folders.{AreAnswersIn, OfKnown}
+use Rattle.ibcplan_folders.specs.Folders.{AreAnswersIn}
 use Rattle.ibcplan_folders.specs.Messages.{AreAnswersAt}
 use Rattle.ibcplan_folders.specs.declared.importing.Votes.TheVariants.{Kept}
 use Rattle.ibcplan_folders.proofs.Known.{known_places, known_placed, needed_at}
