@@ -45,7 +45,8 @@ pub fn advice_for(name: FaultName, path: &str) -> &'static str {
         FaultName::TooManyObjects => {
             "there may be 64 chains, 256 clients, 256 paths and 500 turns; the setup of follow has no turns, which come on standard input"
         }
-        FaultName::TooManyEvents => "there may be 200,000 windows of hosts, goals, events and settlements in all",
+        FaultName::TooManyEvents =>
+            "there may be 200,000 windows of hosts, goals, events and settlements in all",
         FaultName::UnknownSetName => {
             "no set event before this one gives the chain a set of this name: sets stand before the headers and consensus states that name them"
         }

@@ -55,11 +55,7 @@ fn case_in(alloc: Global, script: Script, certificate: Certificate) -> Result<Ca
 
 /// Reads the certificate, and looks up what it names in the script; or answers the first fault.
 #[tactic(auto, using(rb_script_toml::proofs::Steps::steps), unfolding(crate::specs::Verdicts::case_of))]
-pub(crate) fn read_case(
-    alloc: Global,
-    script: Script,
-    certificate: &[u8],
-) -> Result<Case, RunError>
+pub(crate) fn read_case(alloc: Global, script: Script, certificate: &[u8]) -> Result<Case, RunError>
     ensures read { Gives case_view result (case_of (script_view script) certificate.now) }
     ensures script { IfOk result (λ c. c.script ≡ script) }
     ensures turn { IfOk result (λ c. c.turn < length c.script.turns.items) }

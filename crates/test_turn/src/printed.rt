@@ -163,7 +163,10 @@ fn a_script_that_no_text_has_isn_t_printed(rt: HostRuntime) -> Result<(), Fail> 
     let alloc = rt.alloc();
     let mut script = read_script(alloc, GIVEN.as_bytes())?;
     script.config.limit = 7;
-    let is_refused = matches!(text_of_script(alloc, &script, ""), Err(TextError::Unprinted));
+    let is_refused = matches!(
+        text_of_script(alloc, &script, ""),
+        Err(TextError::Unprinted)
+    );
     assert!(rt; is_refused);
     Ok(())
 }
