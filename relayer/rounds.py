@@ -25,9 +25,10 @@ PLANS = 3  # tries to plan without packets whose messages can't be made
 SET_ASIDE = 3  # failures after which a packet waits for long
 BEHIND = "Behind"  # of a message behind another one that can't be made
 LONGEST = 86_400  # seconds that a packet waits at most
+TOO_BIG = "ScriptTooBig"  # of a client: without it the script of the others fits
 STUCK = "nothing goes on"  # of an end that `want` tells: no header leads the client further
 # refusals that tell of the client or the configuration, and not of a source
-BLAMELESS = {"FrozenClient", "UnsupportedClient", "ForeignKey", "OtherRevision", "ScriptTooBig", "MissingClientState", "MissingConsensusStates", "MissingCommitments"}
+BLAMELESS = {"FrozenClient", "UnsupportedClient", "ForeignKey", "OtherRevision", TOO_BIG, "MissingClientState", "MissingConsensusStates", "MissingCommitments"}
 
 
 @dataclasses.dataclass
@@ -245,6 +246,8 @@ class Round:
             place = self.place / clients[0].name / f"{len(clients)}-{number}"
             place.mkdir(parents=True)
             text, left_out, since = self.script_for(clients, place / "setup.toml")
+            if len(clients) > 1 and any(refusal.name == TOO_BIG for refusal in left_out.values()):
+                raise Fault("the script of so many clients would be too big")
             if not text:
                 return
             script = place / "script.toml"

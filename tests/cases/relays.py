@@ -7,6 +7,7 @@ import signal
 import socket
 import subprocess
 import time
+import tomllib
 import urllib.request
 from unittest import mock
 
@@ -17,7 +18,7 @@ from lib.relaying.days import MOMENTS, Days
 from lib.relaying.serving import GATEWAY_FAULTS, NODE_FAULTS
 from lib.relaying.world import PROGRAM, RELAYER, World
 
-from relayer import node
+from relayer import node, planner
 from relayer.config import read_config
 from relayer.planner import Packet
 from relayer.state import Failure, Transaction, read_state
@@ -299,6 +300,22 @@ def plan_fails(program, folder):
         return expected(whole_round(relayer), wanted, "one fails") + world.flaws()
 
 
+def scripts_too_big(program, folder):
+    """Clients whose script would be too big for one are planned for in halves."""
+    with three_chains(folder, program) as world, world.relaying() as relayer:
+        script_of, most = relayer.planner.script_of, []
+
+        def bounded(setup, answers):
+            text, left_out = script_of(setup, answers)
+            clients = [client["id"] for client in tomllib.loads(setup.read_text())["client"]]
+            most.append(len(clients))
+            return text, left_out | {client: planner.Refusal("ScriptTooBig", "refused ScriptTooBig at -") for client in clients[2:]}
+
+        relayer.planner.script_of = bounded
+        flaws = expected(whole_round(relayer), "updated", "halves")
+        return flaws + ([] if max(most) == len(world.clients) > 2 else [f"scripts of {most} clients"]) + world.flaws()
+
+
 # ---- many rounds
 
 
@@ -515,4 +532,4 @@ def processes(program, folder):
         return flaws + world.flaws()
 
 
-KINDS = [configurations, states, dry_round, plain_rounds, bad_nodes, bad_gateways, costly_nodes, one_chain_down, halted_chain, lagging_host, halts_behind_a_broadcast, behind, killed, transactions_fail, plan_fails, hundred_rounds, begun, watching, processes]
+KINDS = [configurations, states, dry_round, plain_rounds, bad_nodes, bad_gateways, costly_nodes, one_chain_down, halted_chain, lagging_host, halts_behind_a_broadcast, behind, killed, transactions_fail, plan_fails, scripts_too_big, hundred_rounds, begun, watching, processes]
