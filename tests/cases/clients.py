@@ -1,4 +1,4 @@
-"""The clients for authors of relayers, each by the tests in its own language, where that is at hand; and the example in Rust, which faults and a kill stop."""
+"""The clients for authors of relayers, each by the tests in its own language, where that is at hand; the library in C; and the example in Rust, which faults and a kill stop."""
 import os
 import pathlib
 import re
@@ -57,6 +57,18 @@ def example_runs(program: str, made: pathlib.Path) -> tuple[int, int]:
     return 2, wrong
 
 
+def library_runs(program: str, made: pathlib.Path) -> tuple[int, int]:
+    """The library in C, made of the object file that a build leaves beside its program, if that and the tools are there; Python calls it."""
+    parts, library = pathlib.Path(f"{program}.o"), made / "c"
+    if not parts.exists() or not all(map(shutil.which, ("gcc", "objcopy", "ld", "ar", "rt"))):
+        print(f"the library in C isn't tried: {parts} or a tool isn't there")
+        return 0, 0
+    status, output = ran([str(CLIENTS / "c" / "build"), str(parts), str(library)], TOP, made, program)
+    if status == 0:
+        status, output = ran(["python3", "-B", str(CLIENTS / "c" / "try.py"), str(library / "libibcplan.so.1")], TOP, made, program)
+    return 1, shown(f"the library in C: {status}", output) if status else 0
+
+
 def client_runs(program: list[str], folder: pathlib.Path) -> tuple[int, int]:
     """How many tests of clients there were, and how many went wrong."""
     made = folder / "clients"
@@ -69,5 +81,7 @@ def client_runs(program: list[str], folder: pathlib.Path) -> tuple[int, int]:
         if is_there(version, least):
             status, output = ran(words, place, made, os.path.abspath(path))
             runs, wrong = runs + 1, wrong + (shown(f"the client of {place}: {status}", output) if status or not re.search(wanted, output) else 0)
-    more, bad = example_runs(os.path.abspath(path), made) if is_there(["cargo", "--version"], (1, 85)) else (0, 0)
-    return runs + more, wrong + bad
+    for tried in [library_runs] + [example_runs] * is_there(["cargo", "--version"], (1, 85)):
+        more, bad = tried(os.path.abspath(path), made)
+        runs, wrong = runs + more, wrong + bad
+    return runs, wrong
