@@ -1,6 +1,8 @@
 //! The bytes of a text that take memory when it is parsed.
-ghost use Rattle.std.specs.Prelude.{◌≡◌, IsTrue};
-ghost use Rattle.rb_script_toml.specs.Marks.{after, after_outside, after_line, after_lines, may_open, counted, marks};
+ghost use Rattle.std.specs.Prelude.{◌≡◌, ◌≤◌, length, drop, IsTrue};
+ghost use Rattle.rb_script_toml.specs.Marks.{after, after_outside, after_line, after_lines, may_open, counted, marks, marks_from};
+
+use memchr::memchr2;
 
 /// The most marks of a text.
 pub const MAX_MARKS: u128 = 7_200_000;
@@ -113,6 +115,17 @@ fn is_plain(place: Place, byte: u8) -> bool
     }
 }
 
+/// How many bytes of a string of one line come before one that may end it, or that takes the next one along.
+fn string_length(place: Place, bytes: &[u8]) -> usize
+    ensures within { result ≤ length bytes.now }
+    ensures none { marks_from place bytes.now ≡ marks_from place (drop result bytes.now) }
+{
+    match place {
+        Place::Line(quote) => memchr2(quote, b'\\', bytes).unwrap_or(bytes.len()),
+        _ => 0,
+    }
+}
+
 /// The marks of a text, by which the memory that it takes is bounded: outside strings and comments `{`, `[` and `.` are
 /// eight each, since each may open a table or an array, and `=` is one, since eight keys take as much as a table.
 pub fn count_marks(bytes: &[u8]) -> u128
@@ -120,10 +133,14 @@ pub fn count_marks(bytes: &[u8]) -> u128
 {
     let mut place = Place::Outside;
     let mut count = 0;
-    for byte in bytes {
-        if !is_plain(place, *byte) {
-            place = after(place, *byte);
-            count += counted(place, *byte);
+    let mut at = 0;
+    while at < bytes.len() {
+        let byte = bytes[at];
+        at += 1;
+        if !is_plain(place, byte) {
+            place = after(place, byte);
+            count += counted(place, byte);
+            at += string_length(place, &bytes[at..]);
         }
     }
     count
