@@ -15,6 +15,14 @@ use Rattle.rb_votes.specs.Voters.{Voters, power_at, voter_at}
 use Rattle.rb_step.specs.Carried.{power_in, members_of, voters_of}
 use Rattle.rb_step.proofs.CommitVoters.{voter, voters_at, few_voters, one_votes, one_passes, none_left, voters_stand}
 
+abbrev power_of : Option Member → ℕ
+power_of o = option_map_or (λ (m : Member). m.power) o 0
+
+-- the power of the member that is read at a place
+pub place_power : (ms items : List Member) (place : ℕ) (m : Member) → items ≡ ms → place < length items → m ≡ get_or items place m → power_at ms place ≡ m.power
+place_power ms items place m same within is =
+    ap (λ xs. power_of (slice_get xs place)) (sym same) ∙ ap power_of (slice_get-get_or items place m within) ∙ ap (λ (x : Member). x.power) (sym is)
+
 module _ (next : Option (List Member)) (own : List Member) (h : Header) where
   abbrev from : ℕ → List Voter
   from place = voters_at next own h place
@@ -45,11 +53,7 @@ module _ (next : Option (List Member)) (own : List Member) (h : Header) where
       (vote : commits ≡ is_commit (get_or votes place v)) (voters : Voters) (p : IsPut place voters) where
     voter_there : (other : ℕ) → power_at (members_of next) other ≡ power_in next m → voter_at voters.own voters.trusted place other ≡ voter next place m
     voter_there other trusted =
-        let inside : place < length own = (let e = ap (λ (ms : List Member). length ms) same in omega (arith, within, e)) in
-        let read : slice_get own place ≡ Some m =
-        slice_get-get_or own place m inside ∙ ap (λ (x : Member). Some x) (sym (is ∙ ap (λ (ms : List Member). get_or ms place m) same)) in
-        let power : power_at voters.own place ≡ m.power =
-        ap (λ ms. power_at ms place) p.own_is ∙ ap (λ (o : Option Member). option_map_or (λ (x : Member). x.power) o 0) read in
+        let power : power_at voters.own place ≡ m.power = place_power voters.own items place m (same ∙ sym p.own_is) within is in
         let lent : power_at voters.trusted other ≡ power_in next m = ap (λ ms. power_at ms other) p.trusted_is ∙ trusted in
         λ i. record { place = place; own = power i; trusted = lent i }
 
@@ -79,9 +83,6 @@ pub put_stand : (next : Option (List Member)) (own : List Member) (h : Header) (
 put_stand next own h voters is = subst StandByPlace (sym is) (voters_stand next 0 own h.votes)
 
 -- ---- a member's power at its address's place in a set
-
-abbrev power_of : Option Member → ℕ
-power_of o = option_map_or (λ (m : Member). m.power) o 0
 
 place_found : (b : Bool) (n k : ℕ) → cond b (Some n) None ≡ Some k → n ≡ k
 place_found true n k e = cc

@@ -68,11 +68,11 @@ fn least_needed<A: Allocator + Copy>(header: &Header<A>, own: &ValidatorSet<A>) 
 /// How many votes it takes, of the header's commit votes from the first on, to have the needed power of its own
 /// set, and what these lack of the needed power of the other set: by the set's order power falls, so no fewer
 /// have it. All of them where they haven't.
-fn first_votes<A: Allocator + Copy>(
+fn first_votes<'a, A: Allocator + Copy>(
     needed: Needed,
-    next: Option<&ValidatorSet<A>>,
-    header: &Header<A>,
-    own: &ValidatorSet<A>,
+    next: Option<&'a ValidatorSet<A>>,
+    header: &'a Header<A>,
+    own: &'a ValidatorSet<A>,
 ) -> (usize, u64)
     requires { IsSignedBy header.now own.now }
     ensures count { result.0 ≡ length (fewest_by (λ v. v.own) needed.own (voters_of (option_copied next.entry) header.now own.now)) }
@@ -155,7 +155,7 @@ fn power_in<A: Allocator + Copy>(
 
 /// The members of the set, if it is known.
 fn members_of<A: Allocator + Copy>(next: Option<&ValidatorSet<A>>) -> &[Validator]
-    ensures { result.now ≡ members_of (option_copied next) }
+    ensures { result.now ≡ members_of (option_copied next.entry) }
 {
     match next {
         Some(next) => next.members(),
