@@ -226,8 +226,9 @@ fn put_voters<A: Allocator + Copy>(
     let votes = header.votes();
     let members = own.members();
     for place in 0..own.size() {
+        let member = &members[place];
         if votes[place].is_commit() {
-            voters.push(place, place_in(next, &members[place], place));
+            voters.push(place, place_in(next, member, place));
         }
     }
 }

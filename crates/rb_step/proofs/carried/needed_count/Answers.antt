@@ -12,8 +12,8 @@ returns-then-lacking-eq0 g c =
     let voters = voters_of (option_copied c.args.next) c.args.header.now c.args.own.now in
     let needed = c.needed_of-needed.result in
     let decides : needed.trusted ≤ sum_by (λ v. v.trusted) (fewest_by (λ v. v.own) needed.own voters) =
-    omega (arith, c.first_votes.ensures.lacking, c.if-lacking-eq0.true) in
-    c.first_votes.ensures.count ∙ sym (alone_own needed voters decides) ∙ ap (λ n. length (sent_votes n voters)) c.needed_of-needed.ensures
+    omega (arith, c.first_votes-count.ensures.lacking, c.if-lacking-eq0.true) in
+    c.first_votes-count.ensures.count ∙ sym (alone_own needed voters decides) ∙ ap (λ n. length (sent_votes n voters)) c.needed_of-needed.ensures
 
 pub returns : goal.returns
 returns g c =
