@@ -13,7 +13,7 @@ use Rattle.rb_votes.specs.declared.voter.Voter.{Voter}
 use Rattle.rb_votes.specs.Places.{StandByPlace}
 use Rattle.rb_votes.specs.Voters.{Voters, power_at, voter_at}
 use Rattle.rb_step.specs.Carried.{power_in, members_of, voters_of}
-use Rattle.rb_step.proofs.CommitVoters.{voter, voters_at, few_voters, one_votes, one_passes, none_left, voters_stand}
+use Rattle.rb_step.proofs.CommitVoters.{voter, voters_at, one_votes, one_passes, none_left, voters_stand}
 
 abbrev power_of : Option Member → ℕ
 power_of o = option_map_or (λ (m : Member). m.power) o 0

@@ -1,4 +1,4 @@
-use Rattle.std.proofs.Common.{◌≡◌, List, position, sym, ap, ◌∙◌, subst}
+use Rattle.std.proofs.Common.{◌≡◌, position, sym, ap, ◌∙◌, subst}
 use Rattle.std.specs.Cmp.Lexicographic.{bytes_decides}
 use Rattle.std.specs.Option.{option_copied}
 use Rattle.rb_valset.specs.Validator.{has_address}

@@ -1,6 +1,6 @@
-use Rattle.std.proofs.Common.{◌≡◌, length, arith}
+use Rattle.std.proofs.Common.{arith}
 use Rattle.std.proofs.lemmas.List.Sorted.{IsPermutation-trans}
-use Rattle.rb_votes.proofs.Sent.{by_own, by_trusted, own_sent, trusted_sent}
+use Rattle.rb_votes.proofs.Sent.{own_sent, trusted_sent}
 use Rattle.rb_votes.proofs.sending.sent_votes.Goals as goal
 
 pub returns-then-len : goal.returns-then-len
