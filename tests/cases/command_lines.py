@@ -135,3 +135,40 @@ def shell_cases(program):
         ("a folder as standard input", 'exec "$@" </', b"", b"device\n", 4, (b"standard input: ", b"redirect a file")),
     ):
         yield Case(what, ["sh", "-c", line, "sh", *program, "plan", "-"], given, b"", error, status, named=named)
+    for size, votes in (150, 76), (10_000, 5_032):
+        script, report = turned_powers(size, votes)
+        yield Case(f"a plan over {size} validators in 256 KB of stack", ["sh", "-c", 'ulimit -s 256; exec "$@"', "sh", *program, "plan", "-"], script.encode(), report.encode(), b"", 0)
+
+
+def turned_powers(size, votes):
+    """A script with a step between two sets of the same validators, the strongest of one the weakest of the other, for a client that sends the needed votes, which
+    are so many; and its report."""
+    sets = (", ".join(f'["{number:064x}", {power}]' for number, power in enumerate(powers)) for powers in (range(1, size + 1), range(size, 0, -1)))
+    old, new = (f'{{ kind = "set", chain = "a", name = "{name}", validators = [{members}] }}' for name, members in zip(("old", "new"), sets))
+    fee = 100 + votes + 2 * size
+    report = f"""ibcplan 3
+turn 1
+client c goal at_least 5
+label 1 0 0
+label 5 {fee} 1
+update 5 from 1 fee {fee} votes {votes} of {size}
+total {fee} updates 1
+batch 1 proof 5
+tx 1 first 0 count 1 gas {fee}
+end
+"""
+    script = f"""version = 3
+chain = [{{ id = "a" }}, {{ id = "b" }}]
+client = [{{ id = "c", host = "b", of = "a", period_ns = 1_000_000_000_000, drift_ns = 0, fee = [100, 1, 1], gas = [100, 1, 1], limits = [1_000_000, 100, 0], votes = "needed" }}]
+[[turn]]
+from = "1970-01-01T00:00:10Z"
+until = "1970-01-01T00:00:20Z"
+goal = [{{ client = "c", at_least = 5 }}]
+event = [
+{old},
+{new},
+{{ kind = "stored", client = "c", height = 1, time = "1970-01-01T00:00:01Z", next = "old" }},
+{{ kind = "header", chain = "a", height = 5, time = "1970-01-01T00:00:05Z", set = "new", next = "new", votes = "{"C" * size}" }},
+]
+"""
+    return script, report

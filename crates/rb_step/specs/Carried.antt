@@ -20,6 +20,11 @@ abbrev pub power_in : Option (List Member) → Member → ℕ
 power_in None m = 0
 power_in (Some set) m = option_map_or (λ n. n.power) (find (has_address (address_of m.key)) set) 0
 
+-- the members of a set, if it is known
+abbrev pub members_of : Option (List Member) → List Member
+members_of None = []
+members_of (Some set) = set
+
 -- the members with a commit vote, from a place of their set on, each with its place and its two powers
 abbrev pub voters_from : ℕ → Option (List Member) → List Member → List Vote → List Voter
 voters_from place next [] votes = []

@@ -6,7 +6,7 @@ mod Thinned
 pub mod Sent
 pub mod Fewest
 mod Others
+mod Seats
 mod Taken
-mod Putting
 mod Thinning
 mod Counted

@@ -118,6 +118,20 @@ module _ (needed : Needed) (voters : List Voter) where
   pub either : (P : List Voter → Type 0) → P by_own → P by_trusted → P (sent_votes needed voters)
   either P a b = cond_both (leb (length by_own) (length by_trusted)) by_own by_trusted P (λ _. a) (λ _. b)
 
+  pub own_sent : (votes other : List Voter) → votes ≡ by_own → other ≡ by_trusted → length votes ≤ length other → votes ≡ sent_votes needed voters
+  own_sent votes other own trusted fewer =
+      let long = ap (λ ws. length ws) own in
+      let longer = ap (λ ws. length ws) trusted in
+      cond_both (leb (length by_own) (length by_trusted)) by_own by_trusted (λ ws. votes ≡ ws)
+      (λ _. own) (λ more. absurd (omega (arith, fewer, long, longer, leb-false (length by_own) (length by_trusted) more)))
+
+  pub trusted_sent : (votes other : List Voter) → other ≡ by_own → votes ≡ by_trusted → length votes < length other → votes ≡ sent_votes needed voters
+  trusted_sent votes other own trusted fewer =
+      let long = ap (λ ws. length ws) own in
+      let longer = ap (λ ws. length ws) trusted in
+      cond_both (leb (length by_own) (length by_trusted)) by_own by_trusted (λ ws. votes ≡ ws)
+      (λ less. absurd (omega (arith, fewer, long, longer, leb-true (length by_own) (length by_trusted) less))) (λ _. trusted)
+
   -- it is the shorter one
   pub sent_min : (n : ℕ) → n ≡ min (length by_own) (length by_trusted) → n ≡ length (sent_votes needed voters)
   sent_min n is =

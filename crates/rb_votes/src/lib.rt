@@ -6,6 +6,8 @@ mod order;
 mod sending;
 mod superfluous;
 mod voter;
+mod voters;
 
 pub use sending::{sent_count, sent_votes};
 pub use voter::{Needed, Voter};
+pub use voters::Voters;

@@ -1,43 +1,28 @@
 //! The votes that are sent, and how many they are.
-ghost use Rattle.std.specs.Prelude.{◌≡◌, ◌≤◌, [], List, IfOk, length};
+ghost use Rattle.std.specs.Prelude.{◌≡◌, ◌≤◌, [], List, IfOk, length, take};
+ghost use Rattle.std.specs.List.Sorted.{IsPermutation};
 ghost use Rattle.rb_votes.specs.declared.voter.Voter.{Voter};
 ghost use Rattle.rb_votes.specs.Places.{StandByPlace};
 ghost use Rattle.rb_votes.specs.Power.{power_in, power_of};
-ghost use Rattle.rb_votes.specs.Votes.{falling, fewest_then, thinned, sent_votes};
+ghost use Rattle.rb_votes.specs.Votes.{fewest_then, thinned, sent_votes};
 
-use crate::order::{bring_fewest, sort_by_power};
-use crate::superfluous::{thin, thinned_len};
+use crate::order::bring_fewest;
+use crate::superfluous::{thin, thinned_len, total};
 use crate::voter::{Needed, Power, Voter};
-use arrayvec::ArrayVec;
+use crate::voters::Voters;
 use std::alloc::{AllocError, Allocator};
 
-/// The votes to send of these voters, who stand in their set's order, so that they pass where all do.
+/// The votes to send of these voters, so that they pass where all do. The voters come to stand in another order.
 pub fn sent_votes<A: Allocator + Copy>(
     alloc: A,
-    voters: &[Voter],
+    voters: &mut Voters<'_>,
     needed: Needed,
 ) -> Result<Vec<Voter, A>, AllocError>
-    requires { StandByPlace voters.now }
-    ensures { IfOk result (λ votes. votes.items ≡ sent_votes needed voters.now) }
+    ensures { (given : List Voter) → StandByPlace given → IsPermutation given voters.old.list
+        → IfOk result (λ votes. votes.items ≡ sent_votes needed given) }
 {
-    let by_own = sorted(alloc, voters, Power::Own)?;
-    let by_trusted = sorted(alloc, voters, Power::Trusted)?;
-    let own_first = fewest_votes(
-        alloc,
-        &by_own,
-        &by_trusted,
-        Power::Own,
-        Power::Trusted,
-        needed,
-    )?;
-    let trusted_first = fewest_votes(
-        alloc,
-        &by_trusted,
-        &by_own,
-        Power::Trusted,
-        Power::Own,
-        needed,
-    )?;
+    let own_first = fewest_votes(alloc, &mut *voters, Power::Own, Power::Trusted, needed)?;
+    let trusted_first = fewest_votes(alloc, voters, Power::Trusted, Power::Own, needed)?;
     if own_first.len() <= trusted_first.len() {
         Ok(own_first)
     } else {
@@ -45,85 +30,61 @@ pub fn sent_votes<A: Allocator + Copy>(
     }
 }
 
-/// The voters by power falling.
-fn sorted<A: Allocator + Copy>(
-    alloc: A,
-    voters: &[Voter],
-    power: Power,
-) -> Result<Vec<Voter, A>, AllocError>
-    requires { StandByPlace voters.now }
-    ensures { IfOk result (λ sorted. sorted.items ≡ falling (power_of power) voters.now) }
-{
-    let mut sorted = Vec::from_slice(alloc, voters)?;
-    sort_by_power(&mut sorted, power);
-    Ok(sorted)
-}
-
-/// The votes that have the needed power, the fewest by one power first, without superfluous ones. The voters
-/// are given by that power falling, and by the other.
+/// The votes that have the needed power, the fewest by one power first, without superfluous ones.
 fn fewest_votes<A: Allocator + Copy>(
     alloc: A,
-    by_power: &[Voter],
-    by_other: &[Voter],
+    voters: &mut Voters<'_>,
     power: Power,
     other: Power,
     needed: Needed,
 ) -> Result<Vec<Voter, A>, AllocError>
-    ensures { (given : List Voter) → StandByPlace given → by_power.now ≡ falling (power_of power) given → by_other.now ≡ falling (power_of other) given
+    ensures votes { (given : List Voter) → StandByPlace given → IsPermutation given voters.old.list
         → IfOk result (λ votes. votes.items
         ≡ thinned needed [] (fewest_then (power_of power) (power_in power needed) (power_of other) (power_in other needed) given)) }
+    ensures same { IsPermutation voters.old.list voters.new.list }
 {
-    let mut votes = Vec::from_slice(alloc, by_power)?;
-    let count = bring_fewest(&mut votes, by_other, power, other, needed);
-    votes.truncate(count);
-    thin(&mut votes, needed);
+    let count = bring_fewest(&mut *voters, power, other, needed);
+    let mut votes = first_votes(alloc, &*voters, count)?;
+    let own = total(&*voters, count, Power::Own);
+    let trusted = total(&*voters, count, Power::Trusted);
+    thin(&mut votes, own, trusted, needed);
     Ok(votes)
 }
 
-/// How many votes `sent_votes` sends of these voters, who stand in their set's order. They come out by power
-/// falling. Takes no memory.
-pub fn sent_count<const N: usize>(voters: &mut ArrayVec<Voter, N>, needed: Needed) -> usize
-    requires { StandByPlace voters.old.items }
-    ensures count { result ≡ length (sent_votes needed voters.old.items) }
-    ensures within { result ≤ length voters.old.items }
+/// The first so many.
+fn first_votes<A: Allocator + Copy>(
+    alloc: A,
+    voters: &Voters<'_>,
+    count: usize,
+) -> Result<Vec<Voter, A>, AllocError>
+    requires { count ≤ length voters.now.list }
+    ensures { IfOk result (λ votes. votes.items ≡ take count voters.now.list) }
 {
-    let by_own = voters.as_mut_slice();
-    sort_by_power(by_own, Power::Own);
-    let mut by_trusted: ArrayVec<Voter, N> = ArrayVec::new();
-    by_trusted.try_extend_from_slice(by_own).unwrap();
-    sort_by_power(by_trusted.as_mut_slice(), Power::Trusted);
-    let mut votes: ArrayVec<Voter, N> = ArrayVec::new();
-    votes.try_extend_from_slice(by_own).unwrap();
-    let own_first = fewest_count(
-        votes.as_mut_slice(),
-        by_trusted.as_slice(),
-        Power::Own,
-        Power::Trusted,
-        needed,
-    );
-    let trusted_first = fewest_count(
-        by_trusted.as_mut_slice(),
-        by_own,
-        Power::Trusted,
-        Power::Own,
-        needed,
-    );
+    let mut votes = Vec::with_capacity(alloc, count)?;
+    for i in 0..count {
+        votes.push(voters.get(i))?;
+    }
+    Ok(votes)
+}
+
+/// How many votes `sent_votes` sends of these voters. Takes no memory.
+pub fn sent_count(voters: &mut Voters<'_>, needed: Needed) -> usize
+    ensures count { (given : List Voter) → StandByPlace given → IsPermutation given voters.old.list
+        → result ≡ length (sent_votes needed given) }
+    ensures within { result ≤ length voters.old.list }
+{
+    let own_first = fewest_count(&mut *voters, Power::Own, Power::Trusted, needed);
+    let trusted_first = fewest_count(voters, Power::Trusted, Power::Own, needed);
     own_first.min(trusted_first)
 }
 
-/// How many votes have the needed power, the fewest by one power first, without superfluous ones. The voters
-/// are given by that power falling, and by the other; the first come out in no order.
-fn fewest_count(
-    voters: &mut [Voter],
-    by_other: &[Voter],
-    power: Power,
-    other: Power,
-    needed: Needed,
-) -> usize
-    ensures count { (given : List Voter) → StandByPlace given → voters.old ≡ falling (power_of power) given → by_other.now ≡ falling (power_of other) given
+/// How many votes have the needed power, the fewest by one power first, without superfluous ones.
+fn fewest_count(voters: &mut Voters<'_>, power: Power, other: Power, needed: Needed) -> usize
+    ensures count { (given : List Voter) → StandByPlace given → IsPermutation given voters.old.list
         → result ≡ length (thinned needed [] (fewest_then (power_of power) (power_in power needed) (power_of other) (power_in other needed) given)) }
-    ensures within { result ≤ length voters.old }
+    ensures same { IsPermutation voters.old.list voters.new.list }
+    ensures within { result ≤ length voters.old.list }
 {
-    let count = bring_fewest(voters, by_other, power, other, needed);
-    thinned_len(&voters[..count], needed)
+    let count = bring_fewest(&mut *voters, power, other, needed);
+    thinned_len(&*voters, count, needed)
 }

@@ -1,19 +1,19 @@
 //! Worked votes that are sent.
-ghost use Rattle.std.specs.Prelude.{◌≡◌};
-ghost use Rattle.rb_votes.specs.Places.{StandByPlace};
-
 use crate::same::assert_same;
-use arrayvec::ArrayVec;
-use rb_votes::{Needed, Voter, sent_count, sent_votes};
+use rb_valset::{PublicKey, Validator, ValsetError};
+use rb_votes::{Needed, Voter, Voters, sent_count, sent_votes};
 use std::alloc::{AllocError, Global};
 use std::process::Abort;
 use std::test::Fail;
 
-fn voter(place: usize, own: u64, trusted: u64) -> Voter
-    ensures place { result.place ≡ place }
-    ensures own { result.own ≡ own }
-    ensures trusted { result.trusted ≡ trusted }
-{
+/// A place that no trusted set here has.
+const NOWHERE: usize = 100;
+
+fn member(power: u64) -> Result<Validator, ValsetError> {
+    Validator::new(PublicKey::Ed25519([0xa1; 32]), power)
+}
+
+fn voter(place: usize, own: u64, trusted: u64) -> Voter {
     Voter {
         place,
         own,
@@ -22,16 +22,14 @@ fn voter(place: usize, own: u64, trusted: u64) -> Voter
 }
 
 /// The votes that are sent of the voters are these, and are counted as so many.
-fn check_sent<const N: usize>(
+fn check_sent(
     rt: &impl Abort,
     alloc: Global,
-    voters: &mut ArrayVec<Voter, N>,
+    voters: &mut Voters<'_>,
     needed: Needed,
     wanted: &[Voter],
-) -> Result<(), AllocError>
-    requires { StandByPlace voters.old.items }
-{
-    let votes = sent_votes(alloc, voters.as_slice(), needed)?;
+) -> Result<(), AllocError> {
+    let votes = sent_votes(alloc, &mut *voters, needed)?;
     assert_same(rt, "votes", votes.as_slice(), wanted);
     assert_same(rt, "count", sent_count(voters, needed), wanted.len());
     Ok(())
@@ -40,12 +38,12 @@ fn check_sent<const N: usize>(
 /// Equal powers of an adjacent header: the first three in set order of four.
 #[test]
 fn equal_powers(rt: HostRuntime) -> Result<(), Fail> {
-    let mut voters = ArrayVec::from([
-        voter(0, 1, 0),
-        voter(1, 1, 0),
-        voter(2, 1, 0),
-        voter(3, 1, 0),
-    ]);
+    let own = [member(1)?, member(1)?, member(1)?, member(1)?];
+    let mut voters = Voters::new(&own, &[]);
+    voters.push(0, NOWHERE);
+    voters.push(1, NOWHERE);
+    voters.push(2, NOWHERE);
+    voters.push(3, NOWHERE);
     let needed = Needed { own: 3, trusted: 0 };
     let wanted = [voter(0, 1, 0), voter(1, 1, 0), voter(2, 1, 0)];
     Ok(check_sent(&rt, rt.alloc(), &mut voters, needed, &wanted)?)
@@ -54,7 +52,11 @@ fn equal_powers(rt: HostRuntime) -> Result<(), Fail> {
 /// One voter has enough of both powers.
 #[test]
 fn one_suffices(rt: HostRuntime) -> Result<(), Fail> {
-    let mut voters = ArrayVec::from([voter(0, 1, 1), voter(1, 9, 9), voter(2, 2, 2)]);
+    let own = [member(1)?, member(9)?, member(2)?];
+    let mut voters = Voters::new(&own, &own);
+    voters.push(0, 0);
+    voters.push(1, 1);
+    voters.push(2, 2);
     let needed = Needed { own: 9, trusted: 5 };
     let wanted = [voter(1, 9, 9)];
     Ok(check_sent(&rt, rt.alloc(), &mut voters, needed, &wanted)?)
@@ -64,12 +66,13 @@ fn one_suffices(rt: HostRuntime) -> Result<(), Fail> {
 /// second superfluous.
 #[test]
 fn one_goes_again(rt: HostRuntime) -> Result<(), Fail> {
-    let mut voters = ArrayVec::from([
-        voter(0, 6, 0),
-        voter(1, 4, 0),
-        voter(2, 3, 5),
-        voter(3, 1, 1),
-    ]);
+    let own = [member(6)?, member(4)?, member(3)?, member(1)?];
+    let trusted = [member(5)?, member(1)?];
+    let mut voters = Voters::new(&own, &trusted);
+    voters.push(0, NOWHERE);
+    voters.push(1, NOWHERE);
+    voters.push(2, 0);
+    voters.push(3, 1);
     let needed = Needed { own: 9, trusted: 5 };
     let wanted = [voter(0, 6, 0), voter(2, 3, 5)];
     Ok(check_sent(&rt, rt.alloc(), &mut voters, needed, &wanted)?)
@@ -78,7 +81,10 @@ fn one_goes_again(rt: HostRuntime) -> Result<(), Fail> {
 /// Where all together don't pass, all are sent.
 #[test]
 fn too_little(rt: HostRuntime) -> Result<(), Fail> {
-    let mut voters = ArrayVec::from([voter(0, 1, 0), voter(1, 2, 0)]);
+    let own = [member(1)?, member(2)?];
+    let mut voters = Voters::new(&own, &[]);
+    voters.push(0, NOWHERE);
+    voters.push(1, NOWHERE);
     let needed = Needed { own: 4, trusted: 0 };
     let wanted = [voter(1, 2, 0), voter(0, 1, 0)];
     Ok(check_sent(&rt, rt.alloc(), &mut voters, needed, &wanted)?)
@@ -88,7 +94,12 @@ fn too_little(rt: HostRuntime) -> Result<(), Fail> {
 /// own power, the one with the lower place.
 #[test]
 fn ties_by_place(rt: HostRuntime) -> Result<(), Fail> {
-    let mut voters = ArrayVec::from([voter(0, 3, 0), voter(1, 3, 2), voter(2, 2, 3)]);
+    let own = [member(3)?, member(3)?, member(2)?];
+    let trusted = [member(3)?, member(2)?];
+    let mut voters = Voters::new(&own, &trusted);
+    voters.push(0, NOWHERE);
+    voters.push(1, 1);
+    voters.push(2, 0);
     let needed = Needed { own: 3, trusted: 2 };
     let wanted = [voter(0, 3, 0), voter(2, 2, 3)];
     Ok(check_sent(&rt, rt.alloc(), &mut voters, needed, &wanted)?)

@@ -3,5 +3,5 @@ use Rattle.std.specs.List.{sum_by}
 use Rattle.rb_votes.specs.Power.{power_of}
 use Rattle.rb_votes.proofs.order.lacking.Given as goal
 
-abbrev pub invariant-loop-voter : goal.invariant-loop-voter
-invariant-loop-voter l = l.left ≡ l.needed - sum_by (power_of l.power) (take l.voter-index l.votes)
+abbrev pub invariant-loop-i : goal.invariant-loop-i
+invariant-loop-i l = l.left ≡ l.needed - sum_by (power_of l.power) (take l.i l.voters.list)

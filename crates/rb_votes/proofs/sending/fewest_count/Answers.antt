@@ -1,7 +1,12 @@
-use Rattle.std.proofs.Common.{[], length, ap, ◌∙◌}
-use Rattle.rb_votes.specs.Votes.{thinned}
+use Rattle.std.proofs.Common.{arith}
+use Rattle.std.proofs.lemmas.List.Sorted.{length_permutation}
 use Rattle.rb_votes.proofs.sending.fewest_count.Goals as goal
 
-pub returns-clause-count : goal.returns-clause-count
-returns-clause-count c = λ given stand is_sorted is_others.
-    c.thinned_len.ensures.count ∙ ap (λ ws. length (thinned c.args.needed [] ws)) (c.bring_fewest-count.ensures.fewest given stand is_sorted is_others)
+pub returns-clause-within : goal.returns-clause-within
+returns-clause-within c =
+    omega (
+      arith,
+      c.thinned_len.ensures.within,
+      c.bring_fewest-count.ensures.within,
+      length_permutation c.args.voters.now.list c.bring_fewest-count.new.voters.list c.bring_fewest-count.ensures.same,
+    )
