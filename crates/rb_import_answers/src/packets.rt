@@ -1,9 +1,9 @@
 //! The answer of CometBFT's `/tx_search`: what transactions did with packets (ICS 4).
-ghost use Rattle.std.specs.Prelude.{◌≡◌, [], map, option_map, string_bytes};
+ghost use Rattle.std.specs.Prelude.{◌≡◌, ◌+◌, ◌<◌, ◌≤◌, ◌^◌, [], IfOk, map, option_map, string_bytes};
 ghost use Rattle.serde_json.specs.View.{view, items_view};
 ghost use Rattle.rb_import_json.specs.FieldErrors.{Reads, Gives};
 ghost use Rattle.rb_import_json.specs.Fields.{object_view};
-ghost use Rattle.rb_import_answers.specs.Packets.{packet_view, search_view, found, transactions, transaction, code, events, event, of_kind, if_channels, packet, timeout, timeout_view};
+ghost use Rattle.rb_import_answers.specs.Packets.{packet_view, search_view, found, transactions, transaction, block_of, code, events, event, of_kind, if_channels, packet, timeout, timeout_view};
 
 use crate::attributes::Attributes;
 use rb_base::Height;
@@ -52,9 +52,9 @@ pub struct RevisionHeight {
     pub height: u64,
 }
 
-/// An event of a packet: what was done, in which block, the packet's sequence (below 2^63), the port and
-/// the channel of its source and of its destination as `port/channel`, and of a packet that was sent its
-/// timeouts (the time in nanoseconds; 0 is none).
+/// An event of a packet: what was done, in which block, whose next height is a height too, the packet's sequence (1 to
+/// 2^63 - 1), the port and the channel of its source and of its destination as `port/channel`, and of a packet that was
+/// sent its timeouts (the time in nanoseconds; 0 is none).
 #[derive(Drop)]
 pub struct PacketEvent {
     pub kind: PacketKind,
@@ -64,6 +64,8 @@ pub struct PacketEvent {
     pub dest: String,
     pub timeout_height: RevisionHeight,
     pub timeout_time: u64,
+    ghost next: { block + 1 < 2 ^ 63 },
+    ghost in_range: { (1 ≤ sequence) × (sequence < 2 ^ 63) },
 }
 
 /// Events of packets, how many transactions the answer has, and how many there are on all pages.
@@ -110,12 +112,26 @@ fn read_all(alloc: Global, items: &[Value]) -> Result<Vec<PacketEvent>, AnswerEr
 fn read_transaction(entry: &Object<'_>, all: &mut Vec<PacketEvent>) -> Result<(), AnswerError>
     ensures { Gives (λ _. map packet_view all.new.items) result (transaction (map packet_view all.old.items) (object_view entry.now)) }
 {
-    let block = entry.height(Key::Height)?;
+    let block = read_block(entry)?;
     let done = entry.inner(Key::TxResult)?;
     if read_code(&done)? == 0 {
         add_events(entry, block, done.items(Key::Events)?, all)
     } else {
         Ok(())
+    }
+}
+
+/// The block that a transaction stands in, whose next height is a height too, else `BadNumber`.
+#[tactic(auto, using(rb_import_json::proofs::Steps::steps), unfolding(crate::specs::Packets::block_of))]
+fn read_block(entry: &Object<'_>) -> Result<Height, FieldError>
+    ensures told { Reads (λ n. n) result (block_of (object_view entry.now)) }
+    ensures next { IfOk result (λ n. n + 1 < 2 ^ 63) }
+{
+    let block = entry.height(Key::Height)?;
+    if block.get() < Height::MAX {
+        Ok(block)
+    } else {
+        Err(entry.flaw(Key::Height, FieldErrorName::BadNumber))
     }
 }
 
@@ -138,6 +154,7 @@ fn add_events(
     items: &[Value],
     all: &mut Vec<PacketEvent>,
 ) -> Result<(), AnswerError>
+    requires { block + 1 < 2 ^ 63 }
     ensures { Gives (λ _. map packet_view all.new.items) result (events block (object_view entry.now) (map packet_view all.old.items) (items_view items.now)) }
 {
     for value in items {
@@ -160,6 +177,7 @@ fn read_event(
     told: &Object<'_>,
     block: Height,
 ) -> Result<Option<PacketEvent>, AnswerError>
+    requires { block + 1 < 2 ^ 63 }
     ensures { Gives (λ o. option_map packet_view o) result (event block (object_view told.now)) }
 {
     match PacketKind::of_type(told.text(Key::Type)?) {
@@ -175,6 +193,7 @@ fn read_attributes(
     kind: PacketKind,
     block: Height,
 ) -> Result<Option<PacketEvent>, AnswerError>
+    requires { block + 1 < 2 ^ 63 }
     ensures { Gives (λ o. option_map packet_view o) result (of_kind kind block (object_view told.now)) }
 {
     let attributes = Attributes {
@@ -192,6 +211,7 @@ fn read_channels(
     kind: PacketKind,
     block: Height,
 ) -> Result<Option<PacketEvent>, AnswerError>
+    requires { block + 1 < 2 ^ 63 }
     ensures { Gives (λ o. option_map packet_view o) result (if_channels kind block (object_view attributes.now.event) (items_view attributes.now.items.now)) }
 {
     if attributes.are_of_clients() {
@@ -207,6 +227,7 @@ fn read_packet(
     kind: PacketKind,
     block: Height,
 ) -> Result<PacketEvent, AnswerError>
+    requires { block + 1 < 2 ^ 63 }
     ensures { Gives (λ p. packet_view p) result (packet kind block (object_view attributes.now.event) (items_view attributes.now.items.now)) }
 {
     let sequence = attributes.sequence()?;
