@@ -12,7 +12,7 @@ use Rattle.rb_import_answers.specs.declared.packets.PacketKind.TheVariants.{Sent
 use Rattle.rb_import_answers.specs.declared.packets.PacketEvent.{PacketEvent}
 use Rattle.rb_import_answers.specs.declared.packets.PacketPage.{PacketPage}
 use Rattle.rb_import_answers.specs.declared.packets.RevisionHeight.{RevisionHeight}
-use Rattle.rb_import_answers.specs.declared.packets.Timeout.{Timeout as CodeTimeout}
+use Rattle.rb_import_answers.specs.declared.transactions.Timeout.{Timeout as CodeTimeout}
 use Rattle.rb_import_json.specs.declared.error.FieldError.{FieldError}
 use Rattle.rb_import_json.specs.declared.error.FieldErrorName.TheVariants.{MissingField, WrongType, BadNumber, BadBase64}
 use Rattle.rb_import_json.specs.declared.field_path.Key.{Key}
