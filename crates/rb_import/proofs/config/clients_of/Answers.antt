@@ -6,7 +6,7 @@ use Rattle.rb_import_check.specs.declared.client.SeenClient.{SeenClient}
 use Rattle.rb_script_types.specs.declared.config.ClientConfig.{ClientConfig}
 use Rattle.rb_import.specs.Reading.{HasItsRange}
 use Rattle.rb_import.specs.Scripts.{client_in}
-use Rattle.rb_import.proofs.Lists.{one_out, rest, zipped_at, zipped_on}
+use Rattle.rb_import.proofs.Lists.{one_out, zipped_at, zipped_on}
 use Rattle.rb_import.proofs.config.clients_of.Goals as goal
 
 pub returns-in-None-clause-too_big : goal.returns-in-None-clause-too_big
@@ -18,7 +18,7 @@ returns-in-None-clause-too_big c =
     let read : c.client-item.result ≡ get_or xs i c.client-item.result = search rules in
     let found : slice_get ys i ≡ Some c.in-Some.it.now = grind (arith, common_steps, slice_get-get_or) in
     λ err. one_out HasItsRange c.loop-place.clients.items _ _ (client_in (c.client-item.result, c.in-Some.it.now))
-        (zipped_at client_in xs ys i c.client-item.result c.in-Some.it.now c.loop-place.clients.items _ small read found c.loop-place.invariant) c.in-None.ensures
+    (zipped_at client_in xs ys i c.client-item.result c.in-Some.it.now c.loop-place.clients.items _ small read found c.loop-place.invariant) c.in-None.ensures
 
 pub loop-place-preserved : goal.loop-place-preserved
 loop-place-preserved c =

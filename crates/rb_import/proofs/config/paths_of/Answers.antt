@@ -7,4 +7,4 @@ use Rattle.rb_import.proofs.config.paths_of.Goals as goal
 pub returns-in-None-clause-too_big : goal.returns-in-None-clause-too_big
 returns-in-None-clause-too_big c =
     λ err. numbered_out HasItsFirst (path_in c.args.answers.now) c.args.setup.now.paths.items c.loop-place.place c.path-item.result c.loop-place.paths.items _ (search rules) (search rules)
-        c.loop-place.invariant c.in-None.ensures
+    c.loop-place.invariant c.in-None.ensures

@@ -1,4 +1,4 @@
-use Rattle.std.proofs.Common.{refl, rules}
+use Rattle.std.proofs.Common.{rules}
 use Rattle.std.proofs.lemmas.Bool.{false≢true}
 use Rattle.rb_script_types.specs.Limits.{max_entries}
 use Rattle.rb_import.proofs.Readable.{no_room}
