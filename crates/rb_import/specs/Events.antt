@@ -1,5 +1,5 @@
 -- The events of a script: of each chain its sets and headers, of each client its consensus states, of each path its packets.
-use Rattle.std.specs.Prelude.{ℕ, ◌==◌, Bool, true, false, ◌&&◌, if◌then◌else◌, List, [], ◌∷◌, ◌++◌, map, reverse, Option, Some, None, option_map, option_to_list, slice_get, Vec}
+use Rattle.std.specs.Prelude.{ℕ, ◌^◌, ◌==◌, nat_lt, Bool, true, false, ◌&&◌, if◌then◌else◌, List, [], ◌∷◌, ◌++◌, map, reverse, Option, Some, None, option_map, option_to_list, slice_get, Vec}
 use Rattle.std.specs.Global.{Global as GlobalAllocator}
 use Rattle.std.specs.declared.alloc.Global.{Global}
 use Rattle.std.specs.List.{enumerate_from, flat_map}
@@ -25,7 +25,7 @@ use Rattle.rb_import_check.specs.declared.chain.Commit.{Commit}
 use Rattle.rb_import_check.specs.declared.chain.SeenChain.{SeenChain}
 use Rattle.rb_import_check.specs.declared.client.Stored.{Stored}
 use Rattle.rb_import_check.specs.declared.sets.SeenSet.{SeenSet}
-use Rattle.rb_import_check.specs.Verdicts.{is_among}
+use Rattle.rb_import_check.specs.Signed.{is_bad}
 use Rattle.rb_import_setup.specs.declared.setup.PathSetup.{PathSetup}
 use Rattle.rb_import_setup.specs.declared.setup.Setup.{Setup}
 use Rattle.rb_import_merge.specs.declared.kept.KeptSets.{KeptSets}
@@ -44,11 +44,6 @@ set_at place chain i = option_to_list (option_map (λ (s : SeenSet). SetSeen pla
 unfoldable pub set_events : ℕ → SeenChain → KeptSets → List (Observation Global)
 set_events place chain kept = flat_map (set_at place chain) (reverse kept.places.items)
 
--- the places of a commit's bad votes, which its verdict tells
-abbrev pub bad_in : Option Verdict → List ℕ
-bad_in (Some verdict) = verdict.bad.items
-bad_in None = []
-
 -- a vote by its flag (CometBFT, `BlockIDFlag`); a vote for the block may be bad
 abbrev pub vote_by : Bool → BlockIdFlag → Vote
 vote_by true flags.Commit = votes.Bad
@@ -56,12 +51,12 @@ vote_by false flags.Commit = votes.Commit
 vote_by is_bad flags.Nil = votes.Nil
 vote_by is_bad flags.Absent = votes.Absent
 
-abbrev pub vote_at : List ℕ → ℕ × Signature → Vote
-vote_at bad p = vote_by (is_among bad p.0) p.1.flag
+abbrev pub vote_at : Option Verdict → ℕ × Signature → Vote
+vote_at verdict p = vote_by (is_bad verdict p.0) p.1.flag
 
 -- the votes of a commit, in set order
 unfoldable pub votes_in : Commit → List Vote
-votes_in c = map (vote_at (bad_in (option_map (λ v. v.now) c.verdict))) (enumerate_from 0 c.header.now.signatures.items)
+votes_in c = map (vote_at (option_map (λ v. v.now) c.verdict)) (enumerate_from 0 c.header.now.signatures.items)
 
 abbrev pub header_in : Commit → Header
 header_in c = record {
@@ -122,13 +117,17 @@ time_at seen place height = option_and_then (λ (c : SeenChain). block_time (c.c
 abbrev pub block_of : Seen → PathConfig → PacketEvent → Block
 block_of seen path e = record { height = e.block; time = option_and_then (λ place. time_at seen place e.block) (writer_of path e.kind) }
 
+-- a height, and none for 0
+abbrev pub height_of : ℕ → Option ℕ
+height_of n = if nat_lt 0 n && nat_lt n (2 ^ 63) then Some n else None
+
 -- 0 is none (ICS 4)
 abbrev pub unless_zero : ℕ → Option ℕ
 unless_zero n = if n == 0 then None else Some n
 
 -- a packet whose timeout came is cleared, as one whose acknowledgement came is (ICS 4)
 abbrev pub packet_by : PacketKind → ℕ → Block → SeenPacket → Observation Global
-packet_by kinds.Sent path block p = Sent path p.event.now.sequence block (unless_zero p.expiry) (unless_zero p.event.now.timeout_time)
+packet_by kinds.Sent path block p = Sent path p.event.now.sequence block (height_of p.expiry) (unless_zero p.event.now.timeout_time)
 packet_by kinds.Received path block p = Received path p.event.now.sequence block.height
 packet_by kinds.AckWritten path block p = AckWritten path p.event.now.sequence block
 packet_by kinds.Cleared path block p = Cleared path p.event.now.sequence

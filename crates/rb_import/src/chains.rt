@@ -1,12 +1,11 @@
 //! The events of chains: their sets and headers.
 ghost use Rattle.std.specs.Prelude.{◌≡◌, ◌++◌, IfOk, OnOk, map, option_map, slice_get};
 ghost use Rattle.std.specs.List.{enumerate_from};
-ghost use Rattle.rb_import_check.specs.Verdicts.{is_among};
-ghost use Rattle.rb_import.specs.Events.{bad_in, chain_events, chains_events, header_at, header_events, header_in, set_at, set_events, sets_of, vote_at, vote_by};
+ghost use Rattle.rb_import.specs.Events.{chain_events, chains_events, header_at, header_events, header_in, set_at, set_events, sets_of, vote_at, vote_by};
 
 use rb_book::{Header, Record, Vote};
 use rb_import_answers::{BlockIdFlag, Signature, Verdict};
-use rb_import_check::{Commit, SeenChain};
+use rb_import_check::{Commit, SeenChain, is_bad};
 use rb_import_merge::{KeptSets, Seen};
 use rb_script_types::Observation;
 use std::alloc::{AllocError, Global};
@@ -132,44 +131,23 @@ fn header_of(alloc: Global, commit: &Commit<'_>) -> Result<Header, AllocError>
 {
     let header = commit.header;
     let record = Record::new(header.time, header.root, header.next);
-    let votes = votes_of(alloc, bad_in(commit.verdict), header.signatures.as_slice())?;
+    let votes = votes_of(alloc, commit.verdict, header.signatures.as_slice())?;
     Ok(Header::new(header.height, record, header.set, votes))
 }
 
-/// The votes of a commit, in set order, of which those at some places are bad.
-fn votes_of(alloc: Global, bad: &[u64], signatures: &[Signature]) -> Result<Vec<Vote>, AllocError>
-    ensures { IfOk result (λ votes. votes.items ≡ map (vote_at bad.now) (enumerate_from 0 signatures.now)) }
+/// The votes of a commit, in set order, of which its verdict calls some bad.
+fn votes_of(
+    alloc: Global,
+    verdict: Option<&Verdict>,
+    signatures: &[Signature],
+) -> Result<Vec<Vote>, AllocError>
+    ensures { IfOk result (λ votes. votes.items ≡ map (vote_at (option_map (λ v. v.now) verdict.entry)) (enumerate_from 0 signatures.now)) }
 {
     let mut votes = Vec::with_capacity(alloc, signatures.len())?;
     for (place, signature) in signatures.iter().enumerate() {
-        votes.push(vote_at(bad, place, signature.flag))?;
+        votes.push(vote_by(is_bad(verdict, place as u64), signature.flag))?;
     }
     Ok(votes)
-}
-
-/// The vote at a place.
-fn vote_at(bad: &[u64], place: usize, flag: BlockIdFlag) -> Vote
-    ensures { result ≡ vote_by (is_among bad.now place) flag }
-{
-    vote_by(is_among(bad, place), flag)
-}
-
-/// Whether a place is among these.
-fn is_among(places: &[u64], place: usize) -> bool
-    ensures { result ≡ is_among places.now place }
-{
-    let place = place as u64;
-    places.iter().any(|&other| other == place)
-}
-
-/// The places of a commit's bad votes.
-fn bad_in<'a>(verdict: Option<&'a Verdict>) -> &'a [u64]
-    ensures { result.now ≡ bad_in (option_map (λ v. v.now) verdict.entry) }
-{
-    match verdict {
-        Some(verdict) => verdict.bad.as_slice(),
-        None => &[],
-    }
 }
 
 /// A vote by its flag; a vote for the block may be bad.

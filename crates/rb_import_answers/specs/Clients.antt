@@ -15,7 +15,7 @@ use Rattle.rb_import_json.specs.declared.field_path.Segment.{Segment}
 use Rattle.rb_import_json.specs.FieldErrors.{◌>>=◌, or_flaw, must}
 use Rattle.rb_import_json.specs.Fields.{Object, flaw_at, has, field, inner, object, items, text, number_or_zero, height, chain, time, record_hash, base64_bytes}
 use Rattle.rb_import_answers.specs.Durations.{nanoseconds_of}
-use Rattle.rb_import_answers.specs.Numbers.{script_number}
+use Rattle.rb_import_answers.specs.Numbers.{in_script, script_number}
 use Rattle.rb_import_answers.specs.Roots.{root_of}
 
 -- only Tendermint's light clients are read
@@ -64,13 +64,10 @@ period state = do
   t ← text Key.TrustingPeriod state
   or_flaw (flaw_at state Key.TrustingPeriod BadDuration) (option_and_then period_of (nanoseconds_of t))
 
-unfoldable pub drift_of : ℕ → Option ℕ
-drift_of n = if nat_lt n (2 ^ 63) then Some n else None
-
 unfoldable pub drift : Object → Result ℕ FieldError
 drift state = do
   t ← text Key.MaxClockDrift state
-  or_flaw (flaw_at state Key.MaxClockDrift BadDuration) (option_and_then drift_of (nanoseconds_of t))
+  or_flaw (flaw_at state Key.MaxClockDrift BadDuration) (option_and_then in_script (nanoseconds_of t))
 
 unfoldable pub client_state : Object → Result ClientState FieldError
 client_state answer = do

@@ -1,5 +1,5 @@
 -- The answer of CometBFT's `/tx_search`: what transactions did with packets (ICS 4; ibc-go's names).
-use Rattle.std.specs.Prelude.{ℕ, suc, ◌++◌, List, [], ◌∷◌, length, map, Option, Some, None, option_and_then, option_to_list, Result, Ok, Err, codes, string_bytes, nat_lt, ◌==◌, ◌&&◌, ◌||◌, not, if◌then◌else◌, Bool, false}
+use Rattle.std.specs.Prelude.{ℕ, suc, ◌+◌, ◌^◌, ◌++◌, List, [], ◌∷◌, length, map, Option, Some, None, option_and_then, option_to_list, Result, Ok, Err, codes, string_bytes, nat_lt, ◌==◌, ◌&&◌, ◌||◌, not, if◌then◌else◌, Bool, false}
 use Rattle.std.specs.List.{position_or_len, before_first, after_first}
 use Rattle.std.specs.Result.{result_ok}
 use Rattle.std.specs.Str.{bytes_eq, is_utf8}
@@ -12,16 +12,16 @@ use Rattle.rb_import_answers.specs.declared.packets.PacketKind.TheVariants.{Sent
 use Rattle.rb_import_answers.specs.declared.packets.PacketEvent.{PacketEvent}
 use Rattle.rb_import_answers.specs.declared.packets.PacketPage.{PacketPage}
 use Rattle.rb_import_answers.specs.declared.packets.RevisionHeight.{RevisionHeight}
-use Rattle.rb_import_answers.specs.declared.packets.Timeout.{Timeout as CodeTimeout}
+use Rattle.rb_import_answers.specs.declared.transactions.Timeout.{Timeout as CodeTimeout}
 use Rattle.rb_import_json.specs.declared.error.FieldError.{FieldError}
 use Rattle.rb_import_json.specs.declared.error.FieldErrorName.TheVariants.{MissingField, WrongType, BadNumber, BadBase64}
 use Rattle.rb_import_json.specs.declared.field_path.Key.{Key}
 use Rattle.rb_import_json.specs.declared.field_path.Segment.{Segment}
-use Rattle.rb_import_json.specs.FieldErrors.{◌>>=◌, or_flaw}
+use Rattle.rb_import_json.specs.FieldErrors.{◌>>=◌, must, or_flaw}
 use Rattle.rb_import_json.specs.Fields.{Object, flaw_at, field, inner, items, text, number, height}
 use Rattle.rb_import_json.specs.Names.{key_name}
 use Rattle.rb_import_json.specs.Values.{number_of}
-use Rattle.rb_import_answers.specs.Numbers.{in_script}
+use Rattle.rb_import_answers.specs.Numbers.{sequence_of}
 
 -- what was done with a packet, by an event's type
 abbrev pub kind_of : List ℕ → Option PacketKind
@@ -100,11 +100,11 @@ attribute_height name event ds = do
   t ← attribute name event ds
   or_flaw (flaw_at event name BadNumber) (revision_height_of t)
 
--- a packet's sequence, which a script takes
+-- a packet's sequence
 unfoldable pub sequence : Object → Items → Result ℕ FieldError
 sequence event ds = do
   n ← attribute_number Key.PacketSequence event ds
-  or_flaw (flaw_at event Key.PacketSequence BadNumber) (in_script n)
+  or_flaw (flaw_at event Key.PacketSequence BadNumber) (sequence_of n)
 
 -- an end of a packet's way: the port and the channel that these attributes hold, as `port/channel`
 unfoldable pub end_of : Key → Key → Object → Items → Result (List ℕ) FieldError
@@ -209,13 +209,20 @@ code o = do
 abbrev pub if_done : ℕ → ℕ → Object → Object → List Packet → Result (List Packet) FieldError
 if_done number block o done before = if number == 0 then (items Key.Events done >>= events block o before) else Ok before
 
+-- the block that a transaction stands in, whose next height, the first that proves what it wrote, is a height too
+unfoldable pub block_of : Object → Result ℕ FieldError
+block_of o = do
+  n ← height Key.Height o
+  _ ← must (flaw_at o Key.Height BadNumber) (nat_lt (n + 1) (2 ^ 63))
+  Ok n
+
 -- what a transaction did, after those before it: nothing, if it failed
 unfoldable pub transaction : List Packet → Object → Result (List Packet) FieldError
 transaction before o = do
-  block ← height Key.Height o
+  number ← block_of o
   done ← inner Key.TxResult o
   n ← code done
-  if_done n block o done before
+  if_done n number o done before
 
 abbrev pub transactions : ℕ → List Packet → Items → Result (List Packet) FieldError
 transactions index before no_items = Ok before

@@ -14,7 +14,7 @@ use Rattle.rb_import_answers.specs.declared.pending.SequencePage.{SequencePage}
 use Rattle.rb_import_answers.specs.declared.pending.Pending.{Pending as CodePending}
 use Rattle.rb_import_answers.specs.declared.pending.Pending.TheVariants as answers
 use Rattle.rb_import_answers.specs.Clients.{is_last, next_key}
-use Rattle.rb_import_answers.specs.Numbers.{in_script, script_number}
+use Rattle.rb_import_answers.specs.Numbers.{sequence_number, sequence_of}
 
 -- the sequences of a page, whether no page follows, and the key of the next page as the gateway wrote it
 pub record Page : Type 0 where
@@ -30,16 +30,16 @@ unfoldable pub committed : Object → Result Page FieldError
 committed answer = do
   last ← is_last answer
   entries ← items Key.Commitments answer
-  all ← each (script_number Key.Sequence) Segment.Commitments [] entries
+  all ← each (sequence_number Key.Sequence) Segment.Commitments [] entries
   Ok (record { sequences = all; is_last = last; next_key = next_key answer })
 
 -- those of which the acknowledgement was written
 unfoldable pub acknowledged : Object → Result (List ℕ) FieldError
-acknowledged answer = items Key.Acknowledgements answer >>= λ ds. each (script_number Key.Sequence) Segment.Acknowledgements [] ds
+acknowledged answer = items Key.Acknowledgements answer >>= λ ds. each (sequence_number Key.Sequence) Segment.Acknowledgements [] ds
 
--- a sequence that a text holds, if it is one that a script takes
+-- a sequence that a text holds
 abbrev pub sequence_in : Data → Option ℕ
-sequence_in d = option_and_then in_script (option_and_then number_of (as_str d))
+sequence_in d = option_and_then sequence_of (option_and_then number_of (as_str d))
 
 -- a sequence that a text of an array holds
 unfoldable pub sequence : Object → Data → Result ℕ FieldError

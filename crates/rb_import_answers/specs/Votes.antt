@@ -17,12 +17,6 @@ flag_of number =
     else if number == 3 then Some Nil
     else None
 
--- the letter of the vote in a script: A, C or N
-abbrev pub letter_of : BlockIdFlag → ℕ
-letter_of Absent = 65
-letter_of Commit = 67
-letter_of Nil = 78
-
 -- the flag of an entry of a commit's `signatures`, which is a JSON number
 unfoldable pub flag : Object → Result BlockIdFlag FieldError
 flag o = do

@@ -8,9 +8,10 @@ ghost use Rattle.rb_import_answers.specs.Unread.{unread};
 
 use crate::client::{ClientState, ConsensusPage, read_client_state, read_consensus_states};
 use crate::commit::{SignedHeader, read_commit};
-use crate::packets::{PacketPage, read_transactions};
+use crate::packets::PacketPage;
 use crate::pending::{Pending, is_pending, read_pending};
 use crate::query::{Query, query_of};
+use crate::transactions::read_transactions;
 use crate::unread::unread;
 use crate::validators::{ValidatorsPage, read_page};
 use crate::verdicts::{Verdicts, read_verdicts};

@@ -1,11 +1,11 @@
 //! The attributes of an event.
-ghost use Rattle.std.specs.Prelude.{◌≡◌, ◌&&◌, not, option_map, string_bytes};
+ghost use Rattle.std.specs.Prelude.{◌≡◌, ◌<◌, ◌≤◌, ◌^◌, ◌&&◌, IfOk, not, option_map, string_bytes};
 ghost use Rattle.serde_json.specs.View.{view, items_view};
 ghost use Rattle.rb_import_json.specs.FieldErrors.{Gives};
 ghost use Rattle.rb_import_json.specs.Fields.{object_view, flaw_at};
 ghost use Rattle.rb_import_answers.specs.Packets.{encoded_name, member_text, decoded, if_utf8, entry_text, attribute, attribute_number, attribute_height, sequence, end_of, is_named, is_there, are_of_clients, revision_height_of};
 
-use crate::number::in_script;
+use crate::number::sequence_of;
 use crate::packets::RevisionHeight;
 use base64::DecodeAllocError;
 use base64::engine::general_purpose::STANDARD;
@@ -60,12 +60,13 @@ impl Attributes<'_> {
         }
     }
 
-    /// The packet's sequence, which a script takes.
+    /// The packet's sequence.
     #[tactic(auto, using(rb_import_json::proofs::Steps::steps), unfolding(crate::specs::Packets::sequence))]
     pub fn sequence(&self) -> Result<u64, AnswerError>
-        ensures { Gives (λ n. n) result (sequence (object_view self.now.event) (items_view self.now.items.now)) }
+        ensures told { Gives (λ n. n) result (sequence (object_view self.now.event) (items_view self.now.items.now)) }
+        ensures range { IfOk result (λ n. (1 ≤ n) × (n < 2 ^ 63)) }
     {
-        match in_script(self.number(Key::PacketSequence)?) {
+        match sequence_of(self.number(Key::PacketSequence)?) {
             Some(number) => Ok(number),
             None => Err(self.flaw(Key::PacketSequence, FieldErrorName::BadNumber)),
         }

@@ -4,10 +4,10 @@ ghost use Rattle.std.specs.Prelude.{◌≡◌, [], Ok, option_map, string_bytes}
 ghost use Rattle.serde_json.specs.View.{items_view, view};
 ghost use Rattle.rb_import_json.specs.FieldErrors.{Reads, Gives};
 ghost use Rattle.rb_import_json.specs.Fields.{object_view};
-ghost use Rattle.rb_import_answers.specs.Clients.{tendermint, live, revision, latest, trust, period_of, period, drift_of, drift, client_state, root, consensus_state, state_since, states_since, is_last, ends, is_empty_text, named_type, next_key, state_type, states, states_view};
+ghost use Rattle.rb_import_answers.specs.Clients.{tendermint, live, revision, latest, trust, period_of, period, drift, client_state, root, consensus_state, state_since, states_since, is_last, ends, is_empty_text, named_type, next_key, state_type, states, states_view};
 
 use crate::duration::nanoseconds_of;
-use crate::number::{MAX_NUMBER, script_number};
+use crate::number::{in_script, script_number};
 use crate::root::root_of;
 use rb_base::{ChainId, Fraction, Height, Moment, Period};
 use rb_import_json::{AnswerError, FieldError, FieldErrorName, Key, Object, Segment};
@@ -162,21 +162,9 @@ fn period_of(nanoseconds: u64) -> Option<Period>
 fn read_drift(state: &Object<'_>) -> Result<u64, FieldError>
     ensures { Reads (λ d. d) result (drift (object_view state.now)) }
 {
-    match nanoseconds_of(state.text(Key::MaxClockDrift)?).and_then(drift_of) {
+    match nanoseconds_of(state.text(Key::MaxClockDrift)?).and_then(in_script) {
         Some(drift) => Ok(drift),
         None => Err(state.flaw(Key::MaxClockDrift, FieldErrorName::BadDuration)),
-    }
-}
-
-/// The clock drift of so many nanoseconds.
-#[tactic(auto, unfolding(crate::specs::Clients::drift_of))]
-fn drift_of(nanoseconds: u64) -> Option<u64>
-    ensures { result ≡ drift_of nanoseconds }
-{
-    if nanoseconds <= MAX_NUMBER {
-        Some(nanoseconds)
-    } else {
-        None
     }
 }
 

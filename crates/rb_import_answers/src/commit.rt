@@ -29,7 +29,7 @@ pub enum BlockIdFlag {
 }
 
 impl BlockIdFlag {
-    ghost use Rattle.rb_import_answers.specs.Votes.{flag_of, letter_of};
+    ghost use Rattle.rb_import_answers.specs.Votes.{flag_of};
 
     /// The flag of this number.
     pub fn of_number(number: u64) -> Option<BlockIdFlag>
@@ -40,17 +40,6 @@ impl BlockIdFlag {
             2 => Some(BlockIdFlag::Commit),
             3 => Some(BlockIdFlag::Nil),
             _ => None,
-        }
-    }
-
-    /// The letter of the vote in a script.
-    pub fn letter(self) -> char
-        ensures { result ≡ letter_of self }
-    {
-        match self {
-            BlockIdFlag::Absent => 'A',
-            BlockIdFlag::Commit => 'C',
-            BlockIdFlag::Nil => 'N',
         }
     }
 }

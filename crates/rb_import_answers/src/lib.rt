@@ -17,6 +17,7 @@ mod revision;
 mod root;
 mod said;
 mod status;
+mod transactions;
 mod unread;
 mod validators;
 mod verdicts;

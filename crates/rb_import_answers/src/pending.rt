@@ -3,16 +3,16 @@ ghost use Rattle.std.specs.Prelude.{◌≡◌, []};
 ghost use Rattle.serde_json.specs.View.{view, items_view};
 ghost use Rattle.rb_import_json.specs.FieldErrors.{Reads, Gives};
 ghost use Rattle.rb_import_json.specs.Fields.{each, object_view};
-ghost use Rattle.rb_import_answers.specs.Numbers.{script_number};
+ghost use Rattle.rb_import_answers.specs.Numbers.{sequence_number};
 ghost use Rattle.rb_import_answers.specs.Pending.{acknowledged, committed, is_pending, page_view, pending, pending_view, sequence, sequence_in, sequences, sequences_from};
 
 use crate::client::{copied, next_key, read_is_last};
-use crate::number::{in_script, script_number};
+use crate::number::{sequence_number, sequence_of};
 use rb_import_json::{AnswerError, FieldError, FieldErrorName, Key, Object, Segment, number_of};
 use serde_json::Value;
 use std::alloc::Global;
 
-/// The sequences of a page of an answer, below 2^63, whether no page follows, and the key of the next page as the gateway wrote
+/// The sequences of a page of an answer, whether no page follows, and the key of the next page as the gateway wrote
 /// it, if it names one.
 #[derive(Drop)]
 pub struct SequencePage {
@@ -80,12 +80,12 @@ fn read_acknowledgements(alloc: Global, answer: &Object<'_>) -> Result<Vec<u64>,
 /// The sequences of packet states, which are the elements of an array.
 #[tactic(auto, using(rb_import_json::proofs::Steps::steps))]
 fn read_states(alloc: Global, part: Segment, items: &[Value]) -> Result<Vec<u64>, AnswerError>
-    ensures { Gives (λ v. v.items) result (each (script_number Key.Sequence) part [] (items_view items.now)) }
+    ensures { Gives (λ v. v.items) result (each (sequence_number Key.Sequence) part [] (items_view items.now)) }
 {
     let mut sequences = Vec::with_capacity(alloc, items.len())?;
     for value in items {
         let entry = Object::element(value, part, sequences.len());
-        sequences.push(script_number(&entry, Key::Sequence)?)?;
+        sequences.push(sequence_number(&entry, Key::Sequence)?)?;
     }
     Ok(sequences)
 }
@@ -110,15 +110,15 @@ fn read_each(alloc: Global, answer: &Object<'_>, items: &[Value]) -> Result<Vec<
     Ok(sequences)
 }
 
-/// The sequence that a text holds, if it is one that a script takes.
+/// The sequence that a text holds, if it holds one.
 fn sequence_in(value: &Value) -> Option<u64>
     ensures { result ≡ sequence_in (view value.now) }
 {
     let text = value.as_str()?;
-    in_script(number_of(text)?)
+    sequence_of(number_of(text)?)
 }
 
-/// The sequence that a text holds, which a script takes.
+/// The sequence that a text holds, else `BadNumber`.
 #[tactic(auto, using(rb_import_json::proofs::Steps::steps), unfolding(crate::specs::Pending::sequence))]
 fn read_sequence(answer: &Object<'_>, value: &Value) -> Result<u64, FieldError>
     ensures { Reads (λ n. n) result (sequence (object_view answer.now) (view value.now)) }

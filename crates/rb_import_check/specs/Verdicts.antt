@@ -1,16 +1,13 @@
 -- Verdicts on the signatures of a chain's commits.
-use Rattle.std.specs.Prelude.{◌≡◌, ◌≢◌, ◌≤◌, ⊤, ℕ, List, [], ◌∷◌, Bool, true, false, Option, Some, None, All, Any, Contains, IsSome, length, option_map, slice_get, if◌then◌else◌, ◌==◌}
+use Rattle.std.specs.Prelude.{◌≡◌, ◌≢◌, ◌≤◌, ⊤, ℕ, List, [], ◌∷◌, Bool, true, false, Option, Some, None, All, Any, Contains, IsSome, length, option_map, slice_get, ◌==◌}
 use Rattle.std.specs.BTreeMap.{BTreeMap, get}
 use Rattle.std.specs.Cmp.Lexicographic.{slice_cmp}
 use Rattle.std.specs.List.{flat_map, list_any}
 use Rattle.std.specs.Ordering.{nat_cmp}
 use Rattle.rb_import_answers.specs.declared.answer.NodeAnswer.{NodeAnswer}
 use Rattle.rb_import_answers.specs.declared.answer.NodeAnswer.TheVariants as answers
-use Rattle.rb_import_answers.specs.declared.commit.BlockIdFlag.{BlockIdFlag}
-use Rattle.rb_import_answers.specs.declared.commit.BlockIdFlag.TheVariants.{Absent, Commit, Nil}
 use Rattle.rb_import_answers.specs.declared.verdicts.Verdict.{Verdict}
 use Rattle.rb_import_answers.specs.declared.verdicts.Verdicts.{Verdicts}
-use Rattle.rb_import_answers.specs.Votes.{letter_of}
 use Rattle.rb_import_check.specs.declared.saved.Saved.{Saved}
 
 abbrev pub verdicts_in : NodeAnswer → List Verdicts
@@ -74,13 +71,6 @@ is_verdicts (answers.Other query) = false
 abbrev pub has_verdicts : List Saved → Bool
 has_verdicts saved = list_any (λ s. is_verdicts s.answer) saved
 
--- ---- letters of votes
-
+-- whether a place is one of these
 abbrev pub is_among : List ℕ → ℕ → Bool
 is_among places place = list_any (λ other. other == place) places
-
--- the letter of a vote at a place, of which these are bad: B (66) of a bad vote for the block
-abbrev pub vote_letter : List ℕ → ℕ → BlockIdFlag → ℕ
-vote_letter bad place Commit = if is_among bad place then 66 else letter_of Commit
-vote_letter bad place Absent = letter_of Absent
-vote_letter bad place Nil = letter_of Nil

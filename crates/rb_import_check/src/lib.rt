@@ -24,5 +24,5 @@ pub use hexadecimal::Hexadecimal;
 pub use laws::{contradictions_stay, verified_votes_are_given};
 pub use saved::{Saved, SavedAnswers, SavedError, read_saved};
 pub use sets::{SeenSet, SeenSets};
-pub use signed::Signatures;
-pub use verdicts::{has_verdicts, vote_letter};
+pub use signed::{Signatures, is_bad};
+pub use verdicts::has_verdicts;

@@ -78,7 +78,7 @@ fn lets_count(signatures: Signatures, verdict: Option<&Verdict>, place: u64) -> 
 }
 
 /// Whether a verdict calls the vote at a place bad.
-fn is_bad(verdict: Option<&Verdict>, place: u64) -> bool
+pub fn is_bad(verdict: Option<&Verdict>, place: u64) -> bool
     ensures { result ≡ is_bad (option_map (λ v. v.now) verdict.entry) place }
 {
     match verdict {

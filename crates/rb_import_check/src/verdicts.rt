@@ -1,14 +1,13 @@
 //! The verdicts on the signatures of a chain's commits.
-ghost use Rattle.std.specs.Prelude.{◌≡◌, ◌↔◌, ◌<◌, IsTrue, false, length, IfOk, IfErr, OnOk, option_map, option_to_list, string_bytes};
-ghost use Rattle.rb_import_answers.specs.Votes.{letter_of};
+ghost use Rattle.std.specs.Prelude.{◌≡◌, ◌↔◌, IsTrue, false, length, IfOk, IfErr, OnOk, option_map, option_to_list, string_bytes};
 ghost use Rattle.rb_import_check.specs.Errors.{IsAt, IsIn, IsTold, IsToldOf};
 ghost use Rattle.rb_import_check.specs.Named.{NamesOf};
 ghost use Rattle.rb_import_check.specs.Refusals.{HasReasonOf};
-ghost use Rattle.rb_import_check.specs.Verdicts.{AreFound, AreVerdictsOn, IsVerdictOn, HasVotes, TellsOtherVotes, has_verdicts, is_among, is_verdicts, verdict_list, verdicts_of, vote_letter};
+ghost use Rattle.rb_import_check.specs.Verdicts.{AreFound, AreVerdictsOn, IsVerdictOn, HasVotes, TellsOtherVotes, has_verdicts, is_among, is_verdicts, verdict_list, verdicts_of};
 
 use crate::error::{CheckErrorName, ImportError};
 use crate::saved::Saved;
-use rb_import_answers::{BlockIdFlag, NodeAnswer, SignedHeader, Verdict, Verdicts};
+use rb_import_answers::{NodeAnswer, SignedHeader, Verdict, Verdicts};
 use std::alloc::{AllocError, Global};
 use std::collections::BTreeMap;
 
@@ -144,17 +143,6 @@ fn has_votes(verdict: Option<&Verdict>, votes: u64) -> bool
     match verdict {
         Some(verdict) => verdict.votes == votes,
         None => true,
-    }
-}
-
-/// The letter in a script of the vote at a place, of which these are bad: `B` of a bad vote for the block.
-pub fn vote_letter(bad: &[u64], place: u64, flag: BlockIdFlag) -> char
-    ensures letter { result ≡ vote_letter bad.now place flag }
-    ensures ascii { result < 128 }
-{
-    match flag {
-        BlockIdFlag::Commit if is_among(bad, place) => 'B',
-        flag => flag.letter(),
     }
 }
 

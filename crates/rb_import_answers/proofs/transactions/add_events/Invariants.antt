@@ -2,7 +2,7 @@ use Rattle.std.proofs.Common.{◌≡◌, map, drop}
 use Rattle.serde_json.specs.View.{items_view}
 use Rattle.rb_import_json.specs.Fields.{object_view}
 use Rattle.rb_import_answers.specs.Packets.{events, packet_view}
-use Rattle.rb_import_answers.proofs.packets.add_events.Given as goal
+use Rattle.rb_import_answers.proofs.transactions.add_events.Given as goal
 
 -- what is left is read after what was read
 abbrev pub invariant-loop-value : goal.invariant-loop-value
