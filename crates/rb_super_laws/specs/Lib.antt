@@ -5,6 +5,7 @@ pub mod InTime
 pub mod Laws
 pub mod Next
 pub mod Pressing
+pub mod Prompt
 pub mod Punctual
 pub mod Schedule
 pub mod Seen
