@@ -10,6 +10,5 @@ pub mod Punctual
 pub mod Schedule
 pub mod Seen
 pub mod Steady
-pub mod Taken
 pub mod Updates
 pub mod Waiting

@@ -8,7 +8,6 @@ ghost use Rattle.rb_super_laws.specs.Prompt.{NoneWaits};
 ghost use Rattle.rb_super_laws.specs.Punctual.{UpdatesKeepDeadlines};
 ghost use Rattle.rb_super_laws.specs.Seen.{SeenIsFewest};
 ghost use Rattle.rb_super_laws.specs.Steady.{MessagesStayReady, TakenUpdatesAreFewest};
-ghost use Rattle.rb_super_laws.specs.Taken.{TakenGoesInTime};
 ghost use Rattle.rb_super_laws.specs.Updates.{PressingUpdates};
 
 use crate::laws::planned_views_are_views;
@@ -61,15 +60,6 @@ pub fn messages_go_in_time()
     ensures { MessagesGoInTime }
 {
     pressing_goes();
-}
-
-/// In a script whose turns take all batches that are open, and ask for no goal, every message that presses is
-/// sent in the turn in which it presses, unless a message is over the gas limit alone.
-pub fn taken_goes_in_time()
-    ensures { TakenGoesInTime }
-{
-    messages_go_in_time();
-    stays_a_book();
 }
 
 /// A run that sends exactly where a message is seen to press, and never sees again what was ready in a sending turn, keeps
