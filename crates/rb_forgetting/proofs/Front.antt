@@ -14,7 +14,7 @@ use Rattle.rb_scan.specs.declared.message.Kind.TheVariants.{Receive, Acknowledge
 use Rattle.rb_scan.specs.declared.path.Order.{Order}
 use Rattle.rb_scan.specs.declared.path.Order.TheVariants.{Ordered, Unordered}
 use Rattle.rb_core_model.specs.Over.{is_over}
-use Rattle.rb_core_model.proofs.Over.{AreOver, counted_over, found_later}
+use Rattle.rb_core_model.proofs.Over.{AreOver, found_later}
 
 -- ---- what is over
 

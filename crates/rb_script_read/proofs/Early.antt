@@ -1,5 +1,5 @@
 -- In scripts of versions 1 and 2 no message may wait, and clients are refreshed by age.
-use Rattle.std.proofs.Common.{◌≡◌, ◌≢◌, ◌⊎◌, ℕ, ◌<◌, ◌==◌, not, List, [], codes, Result, Ok, All, refl, sym, ap, subst, inl, inr, arith}
+use Rattle.std.proofs.Common.{◌≡◌, ◌≢◌, ℕ, ◌==◌, not, List, [], codes, Ok, All, refl, sym, ap, subst, inl, inr, arith}
 use Rattle.std.specs.declared.alloc.Global.{Global}
 use Rattle.std.proofs.lemmas.List.Elements.{All-push}
 use Rattle.rb_script_types.specs.Config.{Config}

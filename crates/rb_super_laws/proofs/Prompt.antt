@@ -1,19 +1,18 @@
 -- In scripts whose messages may not wait, all that are ready go at once.
-use Rattle.std.proofs.Common.{◌≡◌, ◌≢◌, ℕ, zero, suc, ◌+◌, List, [], ◌∷◌, All, length, map, Option, Some, None, refl, sym, ap, ◌∙◌, subst, arith}
+use Rattle.std.proofs.Common.{◌≡◌, ℕ, zero, suc, ◌+◌, List, [], ◌∷◌, length, Option, Some, None, refl, sym, ap, ◌∙◌, subst, arith}
 use Rattle.std.specs.List.{AllByRecursion, cons_option, enumerate_from, filter_map, slice_get}
 use Rattle.std.specs.Option.{option_map}
 use Rattle.std.proofs.lemmas.List.{length-map}
 use Rattle.std.proofs.lemmas.List.Elements.{All-from_recursion, recursion_from_All}
-use Rattle.std.proofs.lemmas.Option.{none-some, same_Some, slice_get-map}
+use Rattle.std.proofs.lemmas.Option.{same_Some, slice_get-map}
 use Rattle.rb_base.specs.declared.gate.Part.{Part}
 use Rattle.rb_book.specs.Laws.{StaysABook}
 use Rattle.rb_script_types.specs.declared.config.ClientConfig.{ClientConfig}
 use Rattle.rb_script_types.specs.declared.config.PathConfig.{PathConfig}
-use Rattle.rb_script_types.specs.declared.config.RefreshTo.TheVariants.{Newer}
 use Rattle.rb_plan_client.specs.Laws.{WaitsNot, NoneWaits as NoneWaitsInTasks}
 use Rattle.rb_plan_client.specs.Task.{PathTask}
 use Rattle.rb_core_model.specs.Config.{part_for}
-use Rattle.rb_core_model.specs.Standing.{PathState, Standing, opening_standing, new_client, new_path, owed_at, path_task, path_tasks}
+use Rattle.rb_core_model.specs.Standing.{PathState, Standing, opening_standing, new_client, new_path, owed_at, path_task}
 use Rattle.rb_super_turn.specs.Script.{IsTurn}
 use Rattle.rb_super_laws.specs.Fewest.{ClientTurn}
 use Rattle.rb_super_laws.specs.Prompt.{NoneWaits}
