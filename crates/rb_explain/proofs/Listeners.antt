@@ -1,5 +1,5 @@
 -- What a listener was given so far, turn after turn.
-use Rattle.std.proofs.Common.{◌≡◌, ℕ, zero, suc, ◌+◌, ◌-◌, ◌<◌, ◌≤◌, Bool, true, false, cond, List, [], ◌∷◌, ◌++◌, Option, Some, None, IfSome, Result, Ok, Err, OnErr, length, map, filter, take, get_or, refl, sym, ap, ◌∙◌, subst, inl, inr, append_assoc, append-nil, add-zero, arith}
+use Rattle.std.proofs.Common.{◌≡◌, ℕ, zero, suc, ◌+◌, ◌-◌, ◌<◌, ◌≤◌, Bool, true, false, cond, List, [], ◌∷◌, ◌++◌, Option, Some, None, IfSome, length, map, filter, take, get_or, refl, sym, ap, ◌∙◌, subst, inl, inr, append_assoc, append-nil, add-zero, arith}
 use Rattle.std.specs.List.{All, slice_get, range_with_len}
 use Rattle.std.proofs.lemmas.Bool.{cond-true, cond-false, false≢true}
 use Rattle.std.proofs.lemmas.List.{length-map, get_or-map, map-append, map-id, take_more, take_all}
@@ -11,7 +11,7 @@ use Rattle.rb_super_turn.specs.Report.{TurnReport}
 use Rattle.rb_super_turn.specs.Script.{Turn}
 use Rattle.rb_super_turn.specs.Turns.{IsTurnReport, after_turn}
 use Rattle.rb_super_turn.specs.Views.{turn_report_view}
-use Rattle.rb_explain.specs.Listening.{Given, given, GivesAll, Gives, numbers_wanted, IsExplanationOf, AreExplanations, GoOn, IsBeginning, IsWhole, IsStopped, IsGivenAll, IsGivenSome, IsGivenOne}
+use Rattle.rb_explain.specs.Listening.{Given, given, GivesAll, Gives, numbers_wanted, IsExplanationOf, AreExplanations, GoOn, IsWhole, IsStopped, IsGivenAll, IsGivenOne}
 use Rattle.rb_explain.specs.Turn.{IsTurnExplained}
 use Rattle.rb_explain.specs.Wanted.{has_turn}
 use Rattle.rb_explain.specs.declared.turn.TurnExplanation.{TurnExplanation}
@@ -61,10 +61,6 @@ module _ {X Y : Type 0} (view : X → Y) (xs : List X) (n : ℕ) (x : X) (lt : n
 
 -- ---- what was given
 
-pub on_err : {T E P : Type 0} (r : Result T E) → P → OnErr r P
-on_err (Ok x) p = tt
-on_err (Err e) p = p
-
 module _ {A : Type 0} where
   gives_none : (o : Option (List (Given A))) → GivesAll o o []
   gives_none None = tt
@@ -93,13 +89,6 @@ module _ {A : Type 0} (w : Wanted) (start : Standing) (ts : List Turn) (old : Op
     are = record { within = omega arith; numbers = refl; explained = All-nil (λ (g : Given A). IsExplanationOf w start ts g.explanation) };
     go_on = All-nil (λ (g : Given A). g.goes_on ≡ true);
   }
-
-  -- it is a beginning
-  pub so_far_begun : (n : ℕ) (now : Standing) (new : Option (List (Given A))) → IsSoFar w start ts n now old new → IsGivenSome w start ts old new
-  so_far_begun n now new is = record { more = is.more; gives = is.gives; are = record { count = n; explanations = is.are; go_on = is.go_on } }
-
-  pub begun_none : IsGivenSome w start ts old old
-  begun_none = so_far_begun 0 start old so_far_first
 
   -- where no turn is left that is wanted, it is all
   pub so_far_whole : (n : ℕ) (now : Standing) (new : Option (List (Given A))) → IsSoFar w start ts n now old new → ((k : ℕ) → n < k → has_turn w k ≡ false) → IsGivenAll w start ts old new

@@ -51,12 +51,6 @@ pub record AreExplanations {A : Type 0} (wanted : Wanted) (start : Standing) (tu
 abbrev pub GoOn : {A : Type 0} → List (Given A) → Type 0
 GoOn gs = All (λ g. g.goes_on ≡ true) gs
 
--- these explain the wanted turns among some of the first, and the listener went on after each
-pub record IsBeginning {A : Type 0} (wanted : Wanted) (start : Standing) (turns : List Turn) (gs : List (Given A)) : Type 0 where
-  pub count : ℕ
-  pub explanations : AreExplanations wanted start turns count gs
-  pub go_on : GoOn gs
-
 -- these explain all wanted turns, and the listener went on after each
 pub record IsWhole {A : Type 0} (wanted : Wanted) (start : Standing) (turns : List Turn) (gs : List (Given A)) : Type 0 where
   pub explanations : AreExplanations wanted start turns (length turns) gs
@@ -79,18 +73,9 @@ pub record IsGivenAll {A : Type 0} (wanted : Wanted) (start : Standing) (turns :
   pub gives : GivesAll old new more
   pub are : IsWhole wanted start turns more ⊎ IsStopped wanted start turns more
 
--- the explanations of the first ones
-pub record IsGivenSome {A : Type 0} (wanted : Wanted) (start : Standing) (turns : List Turn) (old new : Option (List (Given A))) : Type 0 where
-  pub more : List (Given A)
-  pub gives : GivesAll old new more
-  pub are : IsBeginning wanted start turns more
-
 -- the same of a script's turns, from its configuration on
 abbrev pub IsGivenScript : {A : Type 0} → Wanted → Script → Option (List (Given A)) → Option (List (Given A)) → Type 0
 IsGivenScript wanted script old new = IsGivenAll wanted (opening_standing script.config) script.turns old new
-
-abbrev pub IsGivenPart : {A : Type 0} → Wanted → Script → Option (List (Given A)) → Option (List (Given A)) → Type 0
-IsGivenPart wanted script old new = IsGivenSome wanted (opening_standing script.config) script.turns old new
 
 -- ---- (internal) one turn after another
 

@@ -1,10 +1,10 @@
 //! A script, explained turn by turn.
-ghost use Rattle.std.specs.Prelude.{◌≡◌, ℕ, List, Option, true, map, sum_by, All, IfOk, OnOk, OnErr};
+ghost use Rattle.std.specs.Prelude.{◌≡◌, ℕ, List, Option, true, map, sum_by, All, IfOk, OnOk};
 ghost use denote.Param.Send.{Frees};
 ghost use Rattle.rb_script_types.specs.Script.{script_view, IsReadScript};
 ghost use Rattle.rb_super_scripts.specs.AsEvents.{as_events, code_turn_as_events, IsTurnFor, most_events};
 ghost use Rattle.rb_super_turn.specs.Phases.{standing_in, HasLogRoom};
-ghost use Rattle.rb_explain.specs.Listening.{Given, given, Gives, IsGivenAll, IsGivenOne, IsGivenPart, IsGivenScript, IsGivenSome};
+ghost use Rattle.rb_explain.specs.Listening.{Given, given, Gives, IsGivenAll, IsGivenOne, IsGivenScript};
 ghost use Rattle.rb_explain.specs.Turn.{IsExplanation};
 ghost use Rattle.rb_explain.specs.Wanted.{has_turn};
 
@@ -26,8 +26,7 @@ pub trait Listener<A: Allocator> {
     /// refused; the turn then doesn't count as explained.
     fn explained(&mut self, turn: &TurnExplanation<A>) -> Result<bool, AllocError>
         requires { IsExplanation turn.now }
-        ensures given { IfOk result (λ goes_on. Gives (explanations self.old) (explanations self.new) (given turn.now goes_on)) }
-        ensures same { OnErr result (explanations self.new ≡ explanations self.old) };
+        ensures { IfOk result (λ goes_on. Gives (explanations self.old) (explanations self.new) (given turn.now goes_on)) };
 }
 
 /// Tells the listener of a turn, where it is wanted; answers whether the next turn is to be explained.
@@ -37,8 +36,7 @@ fn tell<A: Allocator, L: Listener<A>>(
     listener: &mut L,
 ) -> Result<bool, AllocError>
     requires { has_turn wanted.now turn.now.turn ≡ true → IsExplanation turn.now }
-    ensures given { IfOk result (IsGivenOne (has_turn wanted.now turn.now.turn) turn.now (L.explanations listener.old) (L.explanations listener.new)) }
-    ensures same { OnErr result (L.explanations listener.new ≡ L.explanations listener.old) }
+    ensures { IfOk result (IsGivenOne (has_turn wanted.now turn.now.turn) turn.now (L.explanations listener.old) (L.explanations listener.new)) }
 {
     if wanted.has_turn(turn.turn) {
         listener.explained(turn)
@@ -64,8 +62,7 @@ fn explain_turns<
     requires turns { All (IsTurnFor relayer.config) turns.items }
     requires room { HasLogRoom relayer (sum_by (most_events relayer.config) turns.items) }
     requires alloc { Frees A.Allocator A.dealloc_token }
-    ensures given { OnOk result (IsGivenAll wanted.now (standing_in relayer) (map code_turn_as_events turns.items) (L.explanations listener.old) (L.explanations listener.new)) }
-    ensures begun { OnErr result (IsGivenSome wanted.now (standing_in relayer) (map code_turn_as_events turns.items) (L.explanations listener.old) (L.explanations listener.new)) }
+    ensures { OnOk result (IsGivenAll wanted.now (standing_in relayer) (map code_turn_as_events turns.items) (L.explanations listener.old) (L.explanations listener.new)) }
 {
     let mut relayer = relayer;
     let mut number: usize = 0;
@@ -84,8 +81,7 @@ fn explain_turns<
 
 /// Runs a script by the calling thread alone, and tells the listener of the turns that are wanted, each once it is
 /// explained, in their order, until it asks for no more; nothing of a turn is kept. The gate is called as each scan and plan begins and
-/// ends, and when a client's plan was taken. An error comes only where a growth is refused; the listener was then told of the first of
-/// these turns.
+/// ends, and when a client's plan was taken. An error comes only where a growth is refused.
 pub fn explain_script<
     R: Threads + Sync,
     G: Gate + Sync,
@@ -101,8 +97,7 @@ pub fn explain_script<
 ) -> Result<(), AllocError>
     requires script { IsReadScript (script_view script) }
     requires alloc { Frees A.Allocator A.dealloc_token }
-    ensures given { OnOk result (IsGivenScript wanted.now (as_events (script_view script)) (L.explanations listener.old) (L.explanations listener.new)) }
-    ensures begun { OnErr result (IsGivenPart wanted.now (as_events (script_view script)) (L.explanations listener.old) (L.explanations listener.new)) }
+    ensures { OnOk result (IsGivenScript wanted.now (as_events (script_view script)) (L.explanations listener.old) (L.explanations listener.new)) }
 {
     let crew = Crew::new(rt, 0, gate);
     let Script { config, turns } = script;

@@ -14,8 +14,7 @@ use Rattle.rb_scan.specs.declared.message.Kind.TheVariants.{Receive, Acknowledge
 use Rattle.rb_scan.specs.declared.path.Order.{Order}
 use Rattle.rb_scan.specs.declared.path.Order.TheVariants.{Ordered, Unordered}
 use Rattle.rb_core_model.specs.Over.{is_over}
-use Rattle.rb_core_model.proofs.Over.{AreOver, counted_over, found_later}
-use Rattle.rb_forgetting.specs.Cut.{FrontsActTheSame}
+use Rattle.rb_core_model.proofs.Over.{AreOver, found_later}
 
 -- ---- what is over
 
@@ -214,9 +213,3 @@ module _ (v : Path) (n : ℕ) (over : AreOver v.order v.first n v.packets) where
   pub part_later : (part : Part) → owed_part v part ≡ owed_part (later n v) part
   part_later Packets = kind_same Receive
   part_later Channel = λ i. kind_same Acknowledge i ++ kind_same Timeout i
-
-pub fronts : FrontsActTheSame
-fronts = λ v n le. record {
-  owes = part_later v n (counted_over v.order v.first n v.packets le);
-  finds = λ sequence above. sym (at_later v n (counted_over v.order v.first n v.packets le) sequence above);
-}

@@ -5,7 +5,6 @@ pub mod Views
 pub mod Refusals
 pub mod Additions
 pub mod Planning
-pub mod Kept
 pub mod Last
 pub mod Tasks
 pub mod Answers
@@ -30,4 +29,3 @@ pub mod Reports
 pub mod Turns
 pub mod Room
 pub mod Scripts
-pub mod Cuts

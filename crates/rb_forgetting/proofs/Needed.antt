@@ -17,7 +17,6 @@ use Rattle.rb_scan.specs.declared.path.Order.{Order}
 use Rattle.rb_scan.specs.declared.path.Order.TheVariants.{Ordered, Unordered}
 use Rattle.rb_step.specs.LightClient.{Update}
 use Rattle.rb_core_model.specs.Standing.{OpenBatch, ClientState, PathState, Standing, book_at, window_for}
-use Rattle.rb_forgetting.specs.Laws.{FloorsAreFloors}
 use Rattle.rb_core_model.specs.Forgetting.{is_live_in, needs_of_client, lowest_late, needs_there, needs_here, needs_of_path, needs, lowest_of, floor}
 use Rattle.rb_forgetting.specs.Remains.{IsAfterGone, PacketFits, PathFits}
 use Rattle.rb_forgetting.specs.Rest.{IsAtRecord, NeedsNoLower, AreFloors}
@@ -281,5 +280,6 @@ module _ (w : Span) (s : Standing) (in_force : s.window ≡ Some w) (books : (ch
         (for_own (λ chain (p : PathState). AllByRecursion (λ h. floor w s chain ≤ h) (needs_of_path s.books chain p)) s.paths at_paths));
   }
 
-pub floors_are_floors : FloorsAreFloors
+-- nothing is needed below the floors
+pub floors_are_floors : (w : Span) (s : Standing) → s.window ≡ Some w → ((chain : ℕ) → IsBook (book_at s.books chain)) → AreFloors (floor w s) s
 floors_are_floors = λ w s in_force books. all_floors w s in_force books

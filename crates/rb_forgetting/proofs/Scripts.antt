@@ -36,7 +36,8 @@ use Rattle.rb_super_turn.specs.Report.{Outcome, held, idle, planned, ClientRepor
 use Rattle.rb_super_turn.specs.Script.{Turn, Script, IsSeen, IsTurn, IsScript}
 use Rattle.rb_super_turn.specs.Turns.{after_window, window_event, after_host_window, after_question, before_events, before_plans, opened, after_outcome, after_reports, after_plans, settlement_event, after_settlement, taking, after_taking, takers, after_turn}
 use Rattle.rb_forgetting.specs.Free.{after_freely, turn_freely, AreFreeReports}
-use Rattle.rb_forgetting.specs.Laws.{HasRoom, AreSpared, forgotten, MayForget, raised, AreForgetful, AreSparedRuns, ForgettingIsUnseen, floors_if, floors_after, AreSparedTurns, ForgettingByFloorsIsUnseen}
+use Rattle.rb_forgetting.specs.Forgetful.{forgotten, AreForgetful, floors_if, floors_after}
+use Rattle.rb_forgetting.specs.Laws.{HasRoom, AreSpared, raised, AreSparedTurns, ForgettingByFloorsIsUnseen}
 use Rattle.rb_forgetting.specs.Left.{IsLeft, IsBookLeft, AreStoredLeft}
 use Rattle.rb_core_model.specs.Forgetting.{floor, rest, rest_of_client}
 use Rattle.rb_forgetting.specs.Rest.{NeedsNoLower, AreFloors}
@@ -356,6 +357,11 @@ rest_configs : (m : ℕ → ℕ) (cs : List ClientState) → map (λ (c : Client
 rest_configs m [] = refl
 rest_configs m (c ∷ cs) = ap (λ xs. c.config ∷ xs) (rest_configs m cs)
 
+-- the heights are such that nothing needs to be lower
+abbrev MayForget : Option (ℕ → ℕ) → Standing → Type 0
+MayForget None s = Unit {0}
+MayForget (Some m) s = AreFloors m s
+
 forgotten_fit : (config : Config) (o : Option (ℕ → ℕ)) (s : Standing) → MayForget o s → IsFit config s → IsFit config (forgotten o s)
 forgotten_fit config None s may fit = fit
 forgotten_fit config (Some m) s may fit = record {
@@ -383,7 +389,7 @@ has_room m s t (e ∷ es) same (spared, room, more) =
 
 -- ---- what may be forgotten, where what is left is sound
 
--- as AreSparedRuns says, where what may be forgotten is asked of sound standings alone
+-- no event speaks of what was forgotten by then, and what is forgotten may be, where what is left is sound
 abbrev AreSoundlySpared : (ℕ → ℕ) → Standing → Standing → List Turn → List (Option (ℕ → ℕ)) → Report → Type 0
 AreSoundlySpared m s t [] os rs = Unit {0}
 AreSoundlySpared m s t (turn ∷ turns) os [] = Unit {0}
@@ -391,13 +397,6 @@ AreSoundlySpared m s t (turn ∷ turns) [] (r ∷ rs) = ⊥
 AreSoundlySpared m s t (turn ∷ turns) (o ∷ os) (r ∷ rs) =
     AreSpared m (before_events s turn) (before_events t turn) turn.events × (IsSound (after_turn t turn r) → MayForget o (after_turn t turn r))
     × AreSoundlySpared (raised m o) (turn_freely s turn r) (forgotten o (after_turn t turn r)) turns os rs
-
-if_may : (m : ℕ → ℕ) (s t : Standing) (turns : List Turn) (os : List (Option (ℕ → ℕ))) (rs : Report) → AreSparedRuns m s t turns os rs → AreSoundlySpared m s t turns os rs
-if_may m s t [] os rs spared = tt
-if_may m s t (turn ∷ turns) [] rs spared = absurd spared
-if_may m s t (turn ∷ turns) (o ∷ os) [] spared = tt
-if_may m s t (turn ∷ turns) (o ∷ os) (r ∷ rs) (spared, may, more) =
-    (spared, (λ sound. may), if_may (raised m o) (turn_freely s turn r) (forgotten o (after_turn t turn r)) turns os rs more)
 
 floors_may : (chosen : Standing → Bool) (s : Standing) → IsSound s → MayForget (floors_if chosen s) s
 floors_may chosen s sound = go (chosen s)
@@ -467,10 +466,6 @@ module _ (finds : FindsWhatWasAdded) (stays : StaysABook) (orderly : ViewsAreOrd
   soundly script os report is spared right =
       from_first script.config is.config (opening_standing script.config) (opening_fit script.config is.config (opening_sound finds stays orderly))
       (record { clients = new_configs script.config.clients; paths = new_paths script.config.paths }) script.turns os report (recursion_from_All (IsTurn script.config) script.turns is.turns) spared right
-
-  pub unseen : ForgettingIsUnseen
-  unseen = λ script os report is spared right.
-      soundly script os report is (if_may (λ (chain : ℕ). 0) (opening_standing script.config) (opening_standing script.config) script.turns os report spared) right
 
   pub unseen_by_floors : ForgettingByFloorsIsUnseen
   unseen_by_floors = λ chosen script report is spared right.

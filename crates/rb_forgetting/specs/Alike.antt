@@ -1,4 +1,4 @@
--- Light clients that are alike from a height on.
+-- (internal) Light clients that are alike from a height on.
 use Rattle.std.specs.Prelude.{◌≡◌, ℕ, ◌<◌, ◌≤◌, Contains}
 use Rattle.rb_step.specs.LightClient.{Client}
 

@@ -1,4 +1,4 @@
--- What is left of a light store from a height on.
+-- (internal) What is left of a light store from a height on.
 use Rattle.std.specs.Prelude.{◌≡◌, ℕ, ◌<◌, ◌≤◌, ◌+◌, ◌⊎◌, List, [], ◌++◌, length, All, IfSome, IsSomeAnd, Some, slice_get}
 use Rattle.rb_base.specs.Window.{Span}
 use Rattle.rb_book.specs.Header.{Record, Header}

@@ -4,5 +4,5 @@ pub mod Remains
 pub mod Spoken
 pub mod Rest
 pub mod Free
+pub mod Forgetful
 pub mod Laws
-pub mod Cut

@@ -1,4 +1,4 @@
--- What is left of how things stand, where light stores forgot what is below a height of each chain, and paths what was over.
+-- (internal) What is left of how things stand, where light stores forgot what is below a height of each chain, and paths what was over.
 use Rattle.std.specs.Prelude.{◌≡◌, ℕ, ◌+◌, ◌<◌, ◌≤◌, ◌⊎◌, true, false, List, length, All, Some, IfSome, slice_get}
 use Rattle.std.specs.List.{AllZip}
 use Rattle.rb_base.specs.Window.{Span}

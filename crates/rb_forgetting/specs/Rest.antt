@@ -1,4 +1,4 @@
--- From which heights on what is left changes no report.
+-- (internal) From which heights on what is left changes no report.
 use Rattle.std.specs.Prelude.{◌≡◌, ℕ, ◌<◌, ◌≤◌, ◌+◌, ◌-◌, ◌⊎◌, length, All, Some, IfSome, IsSome, IsSomeAnd, slice_get}
 use Rattle.rb_base.specs.Window.{Span}
 use Rattle.rb_book.specs.Header.{Record}

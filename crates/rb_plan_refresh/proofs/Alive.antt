@@ -1,10 +1,10 @@
 -- The rule keeps a client live up to the next turn where its reach would, so it keeps it live in all turns.
-use Rattle.std.proofs.Common.{◌≡◌, ℕ, zero, suc, ◌+◌, ◌<◌, ◌≤◌, ◌/◌, ◌⊎◌, false, inl, inr, subst, arith}
+use Rattle.std.proofs.Common.{◌≡◌, ℕ, zero, suc, ◌+◌, ◌<◌, ◌≤◌, ◌⊎◌, inl, inr, subst, arith}
 use Rattle.std.specs.Prelude.{Some, IfSome}
 use Rattle.std.proofs.lemmas.Bool.{cases_lt}
 use Rattle.rb_plan_refresh.specs.declared.terms.Terms.{Terms}
 use Rattle.rb_plan_refresh.specs.Refresh.{urgent_age, urgent_gain, needed_time}
-use Rattle.rb_plan_refresh.specs.Turns.{Turns, IsLive, FollowsRule, WouldExpire, CanBeKept, LagsBy}
+use Rattle.rb_plan_refresh.specs.Turns.{Turns, IsLive, FollowsRule, WouldExpire, CanBeKept}
 
 -- of an old state, one in reach is needed that is newer by so much
 old_needs : (t : Terms) (stored reach until : ℕ) → 0 < t.refresh → stored + urgent_age t ≤ until → stored + urgent_gain t < reach → needed_time t stored reach until ≡ Some reach
@@ -38,34 +38,3 @@ module _ (t : Terms) (turns : ℕ) (x : Turns) (stored : ℕ → ℕ) (some : 0 
   stays_live (suc k) inside =
       let e : k + 1 ≡ suc k = omega arith in
       subst (λ j. IsLive t (stored j) (x.until j)) e (step k (omega (arith, inside)) (stays_live k (omega (arith, inside))))
-
-pub stays_live_with_lag : (t : Terms) (turns : ℕ) (x : Turns) (stored : ℕ → ℕ) (apart lag : ℕ) → 0 < t.refresh → FollowsRule t turns x stored
-    → IsLive t (stored 0) (x.until 0) → apart ≤ t.period / 3 → apart + lag + urgent_gain t < t.period
-    → ((k : ℕ) → k + 1 < turns → x.until (k + 1) ≤ x.until k + apart)
-    → ((k : ℕ) → k + 1 < turns → WouldExpire t x stored k → (x.held k ≡ false) × (x.until k ≤ x.reach k + lag))
-    → (k : ℕ) → k < turns → IsLive t (stored k) (x.until k)
-stays_live_with_lag t turns x stored apart lag some rule first third slow near matters =
-    stays_live t turns x stored some rule first kept
-  where
-    kept : (k : ℕ) → k + 1 < turns → WouldExpire t x stored k → CanBeKept t x k
-    kept k inside ends =
-        let h = matters k inside ends in
-        record { near = omega (arith, near k inside, third); free = h.0; live = omega (arith, near k inside, h.1, slow) }
-
--- where turns are rare: what is brought nowhere is young, and what is brought higher becomes young
-rare_step : (t : Terms) (stored reach until next after apart lag : ℕ) → 0 < t.refresh → apart + lag + t.refresh < t.period
-    → until ≤ reach + lag → next ≤ until + apart → stored ≤ after → IfSome (needed_time t stored reach until) (λ time. time ≤ after) → IsLive t after next
-rare_step t stored reach until next after apart lag some slow lags near keeps needs = grind arith
-
-module _ (t : Terms) (turns : ℕ) (x : Turns) (stored : ℕ → ℕ) (apart lag : ℕ) (some : 0 < t.refresh) (rule : FollowsRule t turns x stored)
-    (first : IsLive t (stored 0) (x.until 0)) (slow : apart + lag + t.refresh < t.period)
-    (near : (k : ℕ) → k + 1 < turns → x.until (k + 1) ≤ x.until k + apart)
-    (free : (k : ℕ) → k < turns → x.held k ≡ false) (lags : LagsBy lag turns x) where
-  pub stays_live_rarely : (k : ℕ) → k < turns → IsLive t (stored k) (x.until k)
-  stays_live_rarely zero inside = first
-  stays_live_rarely (suc k) inside =
-      let e : k + 1 ≡ suc k = omega arith in
-      let here : k < turns = omega (arith, inside) in
-      subst (λ j. IsLive t (stored j) (x.until j)) e
-      (rare_step t (stored k) (x.reach k) (x.until k) (x.until (k + 1)) (stored (k + 1)) apart lag some slow (lags k here)
-      (near k (omega (arith, inside))) (rule.keeps k here) (rule.refreshes k here (free k here) (stays_live_rarely k here)))

@@ -1,3 +1,2 @@
 mod Alive
-mod Memoryless
 mod Seldom

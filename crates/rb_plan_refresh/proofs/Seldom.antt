@@ -195,9 +195,6 @@ no_later turns x stored ahead within rise known (suc k) inside =
 
 module _ (t : Terms) (turns : ℕ) (x : Turns) (other : ℕ → ℕ) (ahead : ℕ)
     (known : (k : ℕ) → k < turns → x.reach k ≤ x.until k + ahead) (is : IsKeptAlive t turns x other) where
-  is_raised : ℕ → Bool
-  is_raised k = nat_lt (other k) (other (k + 1))
-
   -- another choice's newest state is no later than its updates can bring it
   pub wins_at_most : (n : ℕ) → n ≤ turns → other n ≤ other 0 + updates other n * (t.period + ahead)
   wins_at_most n inside =

@@ -1,8 +1,8 @@
 -- Laws of refreshes, over every client and every run of turns.
-use Rattle.std.specs.Prelude.{◌≡◌, ◌↔◌, ℕ, ◌+◌, ◌-◌, ◌*◌, ◌/◌, ◌<◌, ◌≤◌, max, true, false, Some, None, IfSome, is_some}
+use Rattle.std.specs.Prelude.{◌≡◌, ℕ, ◌+◌, ◌-◌, ◌*◌, ◌/◌, ◌<◌, ◌≤◌, true, Some, None, IfSome, is_some}
 use Rattle.rb_plan_refresh.specs.declared.terms.Terms.{Terms}
-use Rattle.rb_plan_refresh.specs.Refresh.{urgent_age, urgent_gain, needed_time, refresh_moment}
-use Rattle.rb_plan_refresh.specs.Turns.{Turns, turns_from, IsLive, FollowsRule, IsWithinReach, WouldExpire, CanBeKept, LagsBy, IsKeptAlive, calm_refreshes, refreshes, least_win, updates}
+use Rattle.rb_plan_refresh.specs.Refresh.{urgent_gain, needed_time, refresh_moment}
+use Rattle.rb_plan_refresh.specs.Turns.{Turns, IsLive, FollowsRule, IsWithinReach, WouldExpire, CanBeKept, LagsBy, IsKeptAlive, calm_refreshes, refreshes, least_win, updates}
 
 -- a client that is live in the first turn is live in every turn, if it can be kept in each turn after which it would expire: none other
 -- matters
@@ -11,36 +11,6 @@ KeptAlive =
     (t : Terms) (turns : ℕ) (x : Turns) (stored : ℕ → ℕ) → 0 < t.refresh → FollowsRule t turns x stored
     → IsLive t (stored 0) (x.until 0)
     → ((k : ℕ) → k + 1 < turns → WouldExpire t x stored k → CanBeKept t x k)
-    → (k : ℕ) → k < turns → IsLive t (stored k) (x.until k)
-
--- so it is where turns are never further apart than a third of the period, and in each turn that matters the client isn't held, and what
--- is in reach lags by less than the rest of the period, but for a hundredth of the refresh age
-abbrev pub KeptAliveWhereNodesLag : Type 0
-KeptAliveWhereNodesLag =
-    (t : Terms) (turns : ℕ) (x : Turns) (stored : ℕ → ℕ) (apart lag : ℕ) → 0 < t.refresh → FollowsRule t turns x stored
-    → IsLive t (stored 0) (x.until 0) → apart ≤ t.period / 3 → apart + lag + urgent_gain t < t.period
-    → ((k : ℕ) → k + 1 < turns → x.until (k + 1) ≤ x.until k + apart)
-    → ((k : ℕ) → k + 1 < turns → WouldExpire t x stored k → (x.held k ≡ false) × (x.until k ≤ x.reach k + lag))
-    → (k : ℕ) → k < turns → IsLive t (stored k) (x.until k)
-
--- of a turn with a next one that ends within a third of the period
-pub record NothingIsLost : Type 0 where
-  -- a client that would expire is brought as high as can be, where that keeps it for a hundredth of the refresh age more
-  pub updates : (t : Terms) (stored reach until next : ℕ) → 0 < t.refresh → next ≤ until + t.period / 3
-      → stored + t.period ≤ next → IsLive t reach (next + urgent_gain t) → needed_time t stored reach until ≡ Some reach
-  -- so it is live in the next turn wherever any choice could have it live there, and for a hundredth of the refresh age more
-  pub kept : (t : Terms) (stored reach until next after : ℕ) → 0 < t.refresh → next ≤ until + t.period / 3
-      → stored ≤ after → IfSome (needed_time t stored reach until) (λ time. time ≤ after)
-      → IsLive t (max stored reach) (next + urgent_gain t) → IsLive t after next
-
--- turns may come more rarely where the lag is less: time between turns, lag and refresh age may be nearly the period together. So with a refresh
--- age of a third of the period turns may be two thirds of it apart, and with a small one nearly all of it
-abbrev pub KeptAliveWhereTurnsAreRare : Type 0
-KeptAliveWhereTurnsAreRare =
-    (t : Terms) (turns : ℕ) (x : Turns) (stored : ℕ → ℕ) (apart lag : ℕ) → 0 < t.refresh → FollowsRule t turns x stored
-    → IsLive t (stored 0) (x.until 0) → apart + lag + t.refresh < t.period
-    → ((k : ℕ) → k + 1 < turns → x.until (k + 1) ≤ x.until k + apart)
-    → ((k : ℕ) → k < turns → x.held k ≡ false) → LagsBy lag turns x
     → (k : ℕ) → k < turns → IsLive t (stored k) (x.until k)
 
 -- how far apart refreshes are, in the tracked chain's time, as the first newest state's time and what all of them win
@@ -68,23 +38,12 @@ FewBesideTheLeast =
     → IsKeptAlive t turns x other → other 0 ≡ stored 0
     → least_win t lag * refreshes t x stored turns ≤ (updates other turns + 1) * (t.period + ahead)
 
--- the rule goes by its turn alone: a run can be cut at any turn, and runs be joined
-abbrev pub RuleIsMemoryless : Type 0
-RuleIsMemoryless =
-    (t : Terms) (first more : ℕ) (x : Turns) (stored : ℕ → ℕ)
-    → FollowsRule t (first + more) x stored ↔ (FollowsRule t first x stored × FollowsRule t more (turns_from first x) (λ k. stored (first + k)))
-
 -- by what is in reach now: a refresh is needed from its moment on, and not before; never where there is none
 pub record NextRefresh : Type 0 where
   pub before : (t : Terms) (stored reach until moment : ℕ) → refresh_moment t stored reach ≡ Some moment → until < moment → needed_time t stored reach until ≡ None
   pub from_then_on : (t : Terms) (stored reach until moment : ℕ) → refresh_moment t stored reach ≡ Some moment → moment ≤ until
       → is_some (needed_time t stored reach until) ≡ true
   pub never : (t : Terms) (stored reach until : ℕ) → refresh_moment t stored reach ≡ None → needed_time t stored reach until ≡ None
-
--- a state that was so old when it was stored is urgent no sooner than after two thirds of the period without that age
-abbrev pub UrgentIsRare : Type 0
-UrgentIsRare =
-    (t : Terms) (stored until later lag : ℕ) → until ≤ stored + lag → stored + urgent_age t ≤ later → until + urgent_age t ≤ later + lag
 
 -- what a refresh needs is newer than the newest stored state, and in reach
 abbrev pub RefreshIsInReach : Type 0

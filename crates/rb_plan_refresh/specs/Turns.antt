@@ -33,10 +33,6 @@ pub record CanBeKept (t : Terms) (x : Turns) (k : ℕ) : Type 0 where
   pub free : x.held k ≡ false
   pub live : IsLive t (x.reach k) (x.until (k + 1) + urgent_gain t)
 
--- the same turns from one on
-abbrev pub turns_from : ℕ → Turns → Turns
-turns_from first x = record { until = λ k. x.until (first + k); reach = λ k. x.reach (first + k); held = λ k. x.held (first + k) }
-
 -- a turn has a refresh
 abbrev pub is_refresh : Terms → Turns → (ℕ → ℕ) → ℕ → Bool
 is_refresh t x stored k =

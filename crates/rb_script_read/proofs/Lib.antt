@@ -4,4 +4,5 @@ pub mod SetsLemmas
 pub mod ReadyLemmas
 pub mod EventsLemmas
 pub mod Forms
+pub mod Early
 pub mod DocumentsLemmas

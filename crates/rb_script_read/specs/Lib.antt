@@ -11,3 +11,4 @@ pub mod Work
 pub mod Turns
 pub mod NextTurns
 pub mod Scripts
+pub mod Laws

@@ -5,6 +5,7 @@
 
 mod document;
 mod event;
+pub mod laws;
 mod names;
 mod packet;
 mod ready;

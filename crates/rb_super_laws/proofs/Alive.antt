@@ -279,12 +279,12 @@ still_has place config s t kept has =
     let d = kept place has.0 has.1 in
     (d.0, d.1, d.2.config ∙ has.2)
 
-new_at : (configs : List ClientConfig) (place : ℕ) (config : ClientConfig) → slice_get configs place ≡ Some config → slice_get (map new_client configs) place ≡ Some (new_client config)
+pub new_at : (configs : List ClientConfig) (place : ℕ) (config : ClientConfig) → slice_get configs place ≡ Some config → slice_get (map new_client configs) place ≡ Some (new_client config)
 new_at [] place config e = absurd (none-some config e)
 new_at (x ∷ xs) zero config e = ap (λ y. Some (new_client y)) (same_Some x config e)
 new_at (x ∷ xs) (suc place) config e = new_at xs place config e
 
-configs_are : (place : ℕ) (config : ClientConfig) (turns : List Turn) (rs : List TurnReport) (ks : List ClientTurn) (s : Standing) → AreTurnsOf place s turns rs ks → HasConfig place config s
+pub configs_are : (place : ℕ) (config : ClientConfig) (turns : List Turn) (rs : List TurnReport) (ks : List ClientTurn) (s : Standing) → AreTurnsOf place s turns rs ks → HasConfig place config s
     → AllByRecursion (λ (k : ClientTurn). k.task.config ≡ config) ks
 configs_are place config [] rs [] s are has = tt
 configs_are place config [] rs (k ∷ ks) s are has = absurd are

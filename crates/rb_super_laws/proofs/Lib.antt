@@ -1,6 +1,7 @@
 pub mod Alive
 pub mod Cases
 pub mod Caused
+pub mod Counts
 pub mod Covering
 pub mod Expired
 pub mod Fewest
@@ -20,6 +21,7 @@ pub mod Owing
 pub mod Packets
 pub mod PlannedViews
 pub mod Pressing
+pub mod Prompt
 pub mod Punctual
 pub mod Records
 pub mod Refreshed

@@ -39,6 +39,7 @@ use Rattle.rb_super_turn.specs.Turns.{before_plans, after_plans, after_turn}
 use Rattle.rb_super_laws.specs.Fewest.{ClientTurn, AreTurnsOf, MessageId, has_id, far_on, is_far, is_in_batch, is_ready, is_update, is_within_reach, AreWholeFor, SettlesWhole, UpdatesAreFewest}
 use Rattle.rb_super_laws.specs.InTime.{IsPlannedIn}
 use Rattle.rb_super_laws.specs.Steady.{MessagesStayReady, TakenUpdatesAreFewest}
+use Rattle.rb_super_laws.proofs.Counts.{paths_before, paths_after}
 use Rattle.rb_super_laws.proofs.Expired.{Rising}
 use Rattle.rb_super_laws.proofs.Fewest.{new_found}
 use Rattle.rb_super_laws.proofs.Going.{from_ready, goes_by_gain, in_going, can_before}
@@ -354,6 +355,7 @@ pub record One (place : ℕ) (k : ClientTurn) (s : Standing) : Type 0 where
   pub stands : Stands place k standing
   pub later : Later s standing
   pub kept : Kept s standing
+  pub paths : length standing.paths ≡ length s.paths
 
 record Two (place : ℕ) (k l : ClientTurn) (s : Standing) : Type 0 where
   first : Standing
@@ -391,6 +393,7 @@ module _ (stays : StaysABook) (config : Config) (place : ℕ) where
         stands = subst (λ y. Stands place y (before_plans s turn)) same (stands_of turn r s x is (later.found found) (later.are_books books));
         later = later;
         kept = before_kept s turn;
+        paths = paths_before s turn;
       }
 
   pub one_of_turns : (turns : List Turn) (rs : List TurnReport) (ks : List ClientTurn) (s : Standing) → AllByRecursion (IsTurn config) turns → AreTurnsOf place s turns rs ks → AreFound s → AreBooks s
@@ -409,6 +412,7 @@ module _ (stays : StaysABook) (config : Config) (place : ℕ) where
         stands = rest.stands;
         later = later_trans s (after_turn s turn r) rest.standing whole rest.later;
         kept = kept_trans s (after_turn s turn r) rest.standing (kept_trans s (before_plans s turn) (after_turn s turn r) (before_kept s turn) (rest_kept s turn r)) rest.kept;
+        paths = rest.paths ∙ paths_after s turn r;
       }
 
   two_of_turns : (turns : List Turn) (rs : List TurnReport) (ks : List ClientTurn) (s : Standing) → AllByRecursion (IsTurn config) turns → AreTurnsOf place s turns rs ks → AreFound s → AreBooks s
@@ -433,6 +437,7 @@ module _ (stays : StaysABook) (config : Config) (place : ℕ) where
           stands = rest.stands;
           later = later_trans (before_plans s turn) (after_turn s turn r) rest.standing after rest.later;
           kept = kept_trans (before_plans s turn) (after_turn s turn r) rest.standing (rest_kept s turn r) rest.kept;
+          paths = rest.paths ∙ paths_after s turn r ∙ sym (paths_before s turn);
         };
       }
   two_of_turns (turn ∷ turns) (r ∷ rs) (x ∷ ks) s right are found books (suc n) (suc o) k l lt at next =

@@ -6,7 +6,6 @@ use Rattle.std.proofs.lemmas.Bool.{cases_eq}
 use Rattle.std.proofs.lemmas.Bool.Decides.{nat_tests}
 use Rattle.std.proofs.lemmas.List.Elements.{recursion_from_All}
 use Rattle.std.proofs.lemmas.Option.{none-some, same_Some, slice_get_within}
-use Rattle.rb_book.specs.Laws.{StaysABook}
 use Rattle.rb_script_types.specs.Config.{Config}
 use Rattle.rb_script_types.specs.declared.config.ClientConfig.{ClientConfig}
 use Rattle.rb_script_types.specs.declared.refusal.Refusal.TheVariants.{OutOfOrder}
@@ -14,17 +13,13 @@ use Rattle.rb_script_types.specs.declared.script.HostWindow.{HostWindow as Windo
 use Rattle.rb_script_types.specs.declared.script.Settlement.{Settlement}
 use Rattle.rb_core_model.specs.Refusal.{refused_if}
 use Rattle.rb_core_model.specs.Event.{Event, Window, HostWindow, Asked, SetSeen, HeaderSeen, StoredSeen, Sent, Received, AckWritten, Cleared, Closed, Scanned, Planned, Settled}
-use Rattle.rb_core_model.specs.Standing.{OpenBatch, ClientState, Standing, opening_standing, new_client, with_batch, open_batch, settled_refusal, settled_refusal_of, judged, changed, changed_at, with_height, after_batch, after_settled, standing_after, in_host_window}
+use Rattle.rb_core_model.specs.Standing.{OpenBatch, ClientState, Standing, new_client, with_batch, open_batch, settled_refusal, settled_refusal_of, judged, changed, changed_at, with_height, after_batch, after_settled, standing_after, in_host_window}
 use Rattle.rb_core_model.proofs.HostWindows.{in_host_by, get_mapped}
 use Rattle.rb_core_model.proofs.Lengths.{length-changed_at}
 use Rattle.rb_core_model.proofs.Options.{get_changed, get_changed_same}
-use Rattle.rb_super_turn.specs.Report.{Outcome, held, idle, planned, ClientReport, TurnReport, Report}
+use Rattle.rb_super_turn.specs.Report.{Outcome, held, idle, planned, ClientReport, TurnReport}
 use Rattle.rb_super_turn.specs.Script.{Turn, IsSeen, IsTurn}
-use Rattle.rb_super_turn.specs.Turns.{after_window, window_event, after_host_window, after_question, before_plans, opened, after_outcome, after_reports, after_plans, settlement_event, after_settlement, taking, after_taking, takers, after_turn, AreTurnReports}
-use Rattle.rb_super_laws.specs.InTime.{MessagesGoInTime}
-use Rattle.rb_super_laws.specs.Taken.{AllSendInTime, TakenGoesInTime}
-use Rattle.rb_super_laws.proofs.Later.{AreBooks, before_later, rest_later, planned_book, empty_books}
-use Rattle.rb_super_laws.proofs.Pressing.{none_asked}
+use Rattle.rb_super_turn.specs.Turns.{after_window, window_event, after_host_window, after_question, before_plans, opened, after_outcome, after_reports, after_plans, settlement_event, after_settlement, taking, after_taking, takers, after_turn}
 
 -- ---- what holds of the client at each place
 
@@ -279,25 +274,3 @@ after_free config s turn r is taken none free =
     let within = slice_get_within (fold after_taking settled (range_with_len 0 (length sent.clients))).clients k c at in
     all_taken (length sent.clients) 0 settled unasked (λ j d lt e. absurd (omega (arith, lt))) k c
     (omega (arith, within, taken_count (range_with_len 0 (length sent.clients)) settled, keeps.count)) at)
-
--- ---- turn after turn
-
-in_turns : MessagesGoInTime → StaysABook → (config : Config) (turns : List Turn) (rs : Report) (s : Standing) → AllByRecursion (IsTurn config) turns
-    → AllByRecursion (λ (turn : Turn). (turn.taken ≡ true) × (turn.goals ≡ [])) turns → AllAt IsFree s.clients → AreBooks s → AreTurnReports s turns rs
-    → AllSendInTime s turns rs
-in_turns goes stays config [] rs s are all free books reports = tt
-in_turns goes stays config (turn ∷ turns) [] s are all free books reports = reports
-in_turns goes stays config (turn ∷ turns) (r ∷ rs) s are all free books reports =
-    let before = before_free config s turn are.0 all.0.1 free in
-    let known = (before_later stays config s turn are.0 books).are_books books in (
-      λ place c report t reach p m is presses.
-          goes s turn r place c report t reach p m is (λ _. planned_book s turn r place c report t reach is known) (before place c is.is_client).0 (none_asked c.asked c.config.refresh_to (before place c is.is_client).1) presses,
-      in_turns goes stays config turns rs (after_turn s turn r) are.1 all.1 (after_free config s turn r are.0 all.0.0 all.0.1 free) ((rest_later s turn r).are_books known) reports.1,
-    )
-
-pub taken_in_time : MessagesGoInTime → StaysABook → TakenGoesInTime
-taken_in_time goes stays script report is all reports =
-    in_turns goes stays script.config script.turns report (opening_standing script.config)
-    (recursion_from_All (IsTurn script.config) script.turns is.turns)
-    (recursion_from_All (λ (turn : Turn). (turn.taken ≡ true) × (turn.goals ≡ [])) script.turns all)
-    (none_at_first script.config.clients) (empty_books script.config.limit (length script.config.chains) is.config.rules.limit) reports

@@ -5,10 +5,10 @@ pub mod InTime
 pub mod Laws
 pub mod Next
 pub mod Pressing
+pub mod Prompt
 pub mod Punctual
 pub mod Schedule
 pub mod Seen
 pub mod Steady
-pub mod Taken
 pub mod Updates
 pub mod Waiting

@@ -1,9 +1,12 @@
 -- Where every open batch is taken, the updates that packets make keep every deadline (own choice).
-use Rattle.std.specs.Prelude.{ℕ, List, All, IsSomeAnd}
+use Rattle.std.specs.Prelude.{◌≡◌, ℕ, true, List, [], All, IsSomeAnd}
 use Rattle.rb_super_turn.specs.Report.{SendingReport, nothing, too_big, batched, PlanReport, Outcome, held, idle, planned, Report}
-use Rattle.rb_super_turn.specs.Script.{Script}
+use Rattle.rb_super_turn.specs.Script.{Turn, Script}
 use Rattle.rb_super_laws.specs.Fewest.{ClientTurn, IsRun, KeepsDeadlines, update_turns}
-use Rattle.rb_super_laws.specs.Taken.{TakesAll}
+
+-- each turn takes all batches that are open after it, and asks for no goal
+abbrev pub TakesAll : Script → Type 0
+TakesAll script = All (λ (turn : Turn). (turn.taken ≡ true) × (turn.goals ≡ [])) script.turns
 
 -- a message of a plan is over the gas limit alone
 abbrev pub HasTooBig : SendingReport → Type 0

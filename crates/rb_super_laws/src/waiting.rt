@@ -4,16 +4,25 @@ ghost use Rattle.rb_super_laws.specs.Fewest.{UpdatesAreFewest};
 ghost use Rattle.rb_super_laws.specs.InTime.{MessagesGoInTime};
 ghost use Rattle.rb_super_laws.specs.Next.{IdleUntilNext, NextIsNext};
 ghost use Rattle.rb_super_laws.specs.Pressing.{PressingGoes};
+ghost use Rattle.rb_super_laws.specs.Prompt.{NoneWaits};
 ghost use Rattle.rb_super_laws.specs.Punctual.{UpdatesKeepDeadlines};
 ghost use Rattle.rb_super_laws.specs.Seen.{SeenIsFewest};
 ghost use Rattle.rb_super_laws.specs.Steady.{MessagesStayReady, TakenUpdatesAreFewest};
-ghost use Rattle.rb_super_laws.specs.Taken.{TakenGoesInTime};
 ghost use Rattle.rb_super_laws.specs.Updates.{PressingUpdates};
 
 use crate::laws::planned_views_are_views;
 use rb_book::laws::stays_a_book;
 use rb_plan_refresh::laws::{next_refresh, refresh_is_in_reach};
 use rb_scan::laws::{all_go_along, settled_is_not_owed};
+
+/// In each turn of a script whose messages may not wait all messages that are ready for a client that is refreshed by
+/// age go at once. So it is in scripts of versions 1 and 2 (`rb_script_read::laws::early_scripts_wait_not`).
+pub fn none_waits()
+    ensures { NoneWaits }
+{
+    rb_plan_client::laws::none_waits();
+    stays_a_book();
+}
 
 /// Where a message presses, all ready messages go, in a plan that can be made, however the client is refreshed,
 /// unless a goal was asked for; by gain only one that has to be met exactly keeps them back.
@@ -51,15 +60,6 @@ pub fn messages_go_in_time()
     ensures { MessagesGoInTime }
 {
     pressing_goes();
-}
-
-/// In a script whose turns take all batches that are open, and ask for no goal, every message that presses is
-/// sent in the turn in which it presses, unless a message is over the gas limit alone.
-pub fn taken_goes_in_time()
-    ensures { TakenGoesInTime }
-{
-    messages_go_in_time();
-    stays_a_book();
 }
 
 /// A run that sends exactly where a message is seen to press, and never sees again what was ready in a sending turn, keeps

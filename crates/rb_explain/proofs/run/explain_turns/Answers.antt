@@ -1,4 +1,4 @@
-use Rattle.std.proofs.Common.{◌≡◌, ℕ, ◌≤◌, ◌+◌, ◌++◌, List, [], ◌∷◌, Option, map, take, length, refl, sym, ap, ◌∙◌, subst, arith}
+use Rattle.std.proofs.Common.{◌≡◌, ℕ, ◌≤◌, ◌+◌, ◌++◌, [], ◌∷◌, map, take, length, refl, sym, ap, ◌∙◌, subst, arith}
 use Rattle.std.proofs.lemmas.Iterator.Adapters.{YieldsList-from_vec}
 use Rattle.std.proofs.lemmas.Iterator.Consumers.{YieldsList-turn, YieldsList-end}
 use Rattle.std.proofs.lemmas.List.{length-append, length-map}
@@ -9,9 +9,9 @@ use Rattle.rb_core.specs.Core.{state_in}
 use Rattle.rb_script_types.specs.Config.{Config}
 use Rattle.rb_super_scripts.specs.AsEvents.{code_turn_as_events, IsTurnFor, most_events}
 use Rattle.rb_super_turn.specs.Phases.{standing_in}
-use Rattle.rb_explain.specs.Listening.{Given, IsGivenOne}
+use Rattle.rb_explain.specs.Listening.{IsGivenOne}
 use Rattle.rb_explain.specs.Wanted.{has_turn}
-use Rattle.rb_explain.proofs.Listeners.{IsSoFar, so_far_first, so_far_begun, so_far_whole, so_far_ended, so_far_more, so_far_stopped, viewed_at, viewed_more, on_err}
+use Rattle.rb_explain.proofs.Listeners.{IsSoFar, so_far_first, so_far_whole, so_far_ended, so_far_more, so_far_stopped, viewed_at, viewed_more}
 use Rattle.rb_explain.proofs.run.explain_turns.Goals as goal
 
 pub explain_turn-requires-clause-turn : goal.explain_turn-requires-clause-turn
@@ -77,7 +77,7 @@ loop-turn-preserved g c =
     let so_far = so_far_more w start ts given n (standing_in c.loop-turn.relayer) before inv.so_far (code_turn_as_events x) one
     (viewed_at code_turn_as_events items n x turn.0 turn.1) (c.in_ok-one.ensures.number ∙ at) (let all = length-map items code_turn_as_events in omega (arith, turn.0, all)) c.in_ok-one.ensures.right
     (standing_in c.explain_turn.new.relayer) after (viewed_more code_turn_as_events items n x turn.0 turn.1) c.in_ok-one.ensures.standing
-    (subst (IsGivenOne (has_turn w one.turn) one before after) c.if-not-branch.false c.in_ok-tell.ensures.given) in
+    (subst (IsGivenOne (has_turn w one.turn) one before after) c.if-not-branch.false c.in_ok-tell.ensures) in
     record {
       config = c.in_ok-one.ensures.later.config ∙ inv.config;
       front = omega arith;
@@ -95,8 +95,8 @@ tell-requires g c = λ is_wanted. record {
 }
 
 -- no later turn is wanted
-pub returns-then-ends_before-clause-given : goal.returns-then-ends_before-clause-given
-returns-then-ends_before-clause-given g c =
+pub returns-then-ends_before : goal.returns-then-ends_before
+returns-then-ends_before g c =
     let items = c.args.turns.items in
     let x = c.in-Some.turn in
     let n = length c.loop-turn.yielded in
@@ -112,8 +112,8 @@ returns-then-ends_before-clause-given g c =
     (g.L.Listener.explanations c.loop-turn.listener) inv.so_far (λ k lt. c.ends_before.ensures.0 c.if-ends_before.true k (omega (arith, at)))
 
 -- the listener asks for no more
-pub returns-then-not-branch-clause-given : goal.returns-then-not-branch-clause-given
-returns-then-not-branch-clause-given g c =
+pub returns-then-not-branch : goal.returns-then-not-branch
+returns-then-not-branch g c =
     let items = c.args.turns.items in
     let x = c.in-Some.turn in
     let n = length c.loop-turn.yielded in
@@ -132,31 +132,12 @@ returns-then-not-branch-clause-given g c =
     so_far_stopped w (standing_in c.args.relayer) (map code_turn_as_events items) (g.L.Listener.explanations c.args.listener.now) n (standing_in c.loop-turn.relayer)
     before inv.so_far (code_turn_as_events x) one (viewed_at code_turn_as_events items n x turn.0 turn.1) (c.in_ok-one.ensures.number ∙ at)
     (let map_long = length-map items code_turn_as_events in omega (arith, turn.0, map_long)) c.in_ok-one.ensures.right
-    after (subst (IsGivenOne (has_turn w one.turn) one before after) c.if-not-branch.true c.in_ok-tell.ensures.given)
+    after (subst (IsGivenOne (has_turn w one.turn) one before after) c.if-not-branch.true c.in_ok-tell.ensures)
 
-pub returns-clause-given : goal.returns-clause-given
-returns-clause-given g c =
+pub returns : goal.returns
+returns g c =
     let items = c.args.turns.items in
     let road = YieldsList-from_vec {s = c.into_iter-turn-iterator.result} items c.into_iter-turn-iterator.ensures.into_iter_gives.0 (c.into_iter-turn-iterator.ensures.into_iter_gives.1 ∙ c.args.turns.ok.0) in
     let end = YieldsList-end road c.loop-turn.yielded _ c.loop-turn.yielded_by _ c.next.new.self c.in-None.is c.next.ensures.steps in
     so_far_ended c.args.wanted.now (standing_in c.args.relayer) (map code_turn_as_events items) (g.L.Listener.explanations c.args.listener.now) (length c.loop-turn.yielded) (standing_in c.loop-turn.relayer)
     (g.L.Listener.explanations c.loop-turn.listener) c.loop-turn.invariant.so_far (let long = length-map items code_turn_as_events in omega (arith, end.1, long))
-
-pub returns-in_err-one-clause-begun : goal.returns-in_err-one-clause-begun
-returns-in_err-one-clause-begun g c =
-    on_err c.from_residual.result
-    (so_far_begun c.args.wanted.now (standing_in c.args.relayer) (map code_turn_as_events c.args.turns.items) (g.L.Listener.explanations c.args.listener.now) (length c.loop-turn.yielded) (standing_in c.loop-turn.relayer)
-    (g.L.Listener.explanations c.loop-turn.listener) c.loop-turn.invariant.so_far)
-
--- the listener can't be told
-pub returns-in_err-tell-clause-begun : goal.returns-in_err-tell-clause-begun
-returns-in_err-tell-clause-begun g c =
-    let w = c.args.wanted.now in
-    let start = standing_in c.args.relayer in
-    let ts = map code_turn_as_events c.args.turns.items in
-    let given = g.L.Listener.explanations c.args.listener.now in
-    let n = length c.loop-turn.yielded in
-    let now = standing_in c.loop-turn.relayer in
-    on_err c.from_residual-in_err-tell.result
-    (so_far_begun w start ts given n now (g.L.Listener.explanations c.tell.new.listener)
-    (subst (λ (o : Option (List (Given _))). IsSoFar w start ts n now given o) (sym c.in_err-tell.ensures.same) c.loop-turn.invariant.so_far))
