@@ -298,6 +298,26 @@ def damaged_proofs(program, top):
     return flaws
 
 
+def damaged_acknowledgements(program, top):
+    """On an ORDERED channel an acknowledgement that isn't proved leaves out those behind it, and no timeout."""
+    world = World(top, "damaged-ack", True)
+    world.send(*[(0, 0)] * 2)
+    world.blocks(5)
+    flaws, _ = world.round(program)
+    world.send((3, 0))
+    world.blocks(20)
+
+    def damage(key, value):
+        if "acks/" in key and key.endswith("sequences/1"):
+            value["result"]["response"]["proofOps"] = None
+        return value
+    world.damage = damage
+    more, done = world.round(program, status=7)
+    flaws = expect(flaws + more, "beside a damaged acknowledgement", world.kinds(), [("hub-4", "UT")])
+    told = re.findall(r"^left out .*", done.stderr.decode(), re.M)
+    return expect(flaws, "told of acknowledgements", told, ["left out transfers ack 1: NoProof", "left out transfers ack 2: Behind"])
+
+
 def all_good(folder, chain):
     """Writes verdicts that call all votes of a chain's commits good."""
     commits = []
@@ -343,13 +363,21 @@ def plain_setups(program, top):
     lacking = subprocess.run([*program, "messages", str(setup), str(answers_folder), str(world.top / "lacking")], capture_output=True, check=False)
     lines = [line.split() for line in lacking.stdout.decode().splitlines()]
     flaws = expect(flaws, "asked", (lacking.returncode, [line[:2] for line in lines], (world.top / "lacking").exists()), (7, [["get", "hub-4"]] * 2, False))
-    return expect(flaws, "names", [re.sub(r"-\d+\.json$", "", line[3]) for line in lines], [f"transfers/proofs/recv-{n}" for n in (1, 2)])
+    flaws = expect(flaws, "names", [re.sub(r"-\d+\.json$", "", line[3]) for line in lines], [f"transfers/proofs/recv-{n}" for n in (1, 2)])
+    for ending in (".json", ".refused"):  # what stands in the place of an answer and can't be read is no answer that isn't there
+        kept = (answers_folder / lines[0][3]).with_suffix(ending)
+        kept.mkdir(parents=True)
+        unread = subprocess.run([*program, "messages", str(setup), str(answers_folder), str(world.top / "unread")], capture_output=True, check=False)
+        flaws = expect(flaws, f"a folder {kept.name}", (unread.returncode, str(kept) in unread.stderr.decode(), (world.top / "unread").exists()), (4, True, False))
+        kept.rmdir()
+    return flaws
 
 
 RUNS = [
     ("unordered", life_of_packets, {"is_ordered": False}), ("ordered", life_of_packets, {"is_ordered": True}),
     ("unordered, several hops", life_of_packets, {"is_ordered": False, "change": 4}), ("ordered, several hops", life_of_packets, {"is_ordered": True, "switch": (20,)}),
-    ("several transactions", several_transactions, {}), ("damaged proofs", damaged_proofs, {}), ("plain setups", plain_setups, {}),
+    ("several transactions", several_transactions, {}), ("damaged proofs", damaged_proofs, {}),
+    ("damaged acknowledgements", damaged_acknowledgements, {}), ("plain setups", plain_setups, {}),
 ]
 
 
