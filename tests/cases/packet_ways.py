@@ -23,6 +23,7 @@ from lib.relaying.serving import Source
 
 CLIENT, BACK = "07-tendermint-0", "07-tendermint-3"
 ENDS = {"hub-4": ("transfer", "channel-0"), "zone-1": ("transfer", "channel-7")}
+MORE = {"hub-4": ("transfer", "channel-1"), "zone-1": ("transfer", "channel-8")}
 SIGNERS = {"hub-4": "cosmos1qy352eufqy352eufqy352eufqy35qqqz0kg2hh", "zone-1": "zone1qy352eufqy352eufqy352eufqy35qqqz9a8b7c"}
 DENOMS = {"hub-4": "uatom", "zone-1": "ibc/27394FB092D2ECCD56123C74F36E4C1F926001CEADA9CA97EA622B25F41E5EB2"}
 PRICE, FACTOR = (25, 1_000), (6, 5)
@@ -318,6 +319,40 @@ def damaged_acknowledgements(program, top):
     return expect(flaws, "told of acknowledgements", told, ["left out transfers ack 1: NoProof", "left out transfers ack 2: Behind"])
 
 
+class TwoChannels(World):
+    """The same with a second channel over the same clients."""
+
+    def __init__(self, top, name, is_ordered):
+        super().__init__(top, name, is_ordered)
+        hub, zone = self.chains.values()
+        more = hub.open(BACK, MORE["hub-4"], is_ordered), zone.open(CLIENT, MORE["zone-1"], is_ordered)
+        more[0].other, more[1].other = more[::-1]
+
+    def setup(self, limits):
+        before, path, turn = re.fullmatch(r"(.*)(\[\[path\]\].*)(\[\[turn\]\].*)", super().setup(limits), re.S).groups()
+        other = path.replace('"transfers"', '"others"').replace(*(f'"{ends["hub-4"][1]}"' for ends in (ENDS, MORE))).replace(*(f'"{ends["zone-1"][1]}"' for ends in (ENDS, MORE)))
+        return before + path + other + turn
+
+
+def two_channels(program, top):
+    """What isn't proved of an ORDERED channel leaves out nothing of another one."""
+    world = TwoChannels(top, "two-channels", True)
+    world.send(*[(0, 0)] * 3)
+    for _ in range(2):
+        world.chains["hub-4"].send(MORE["hub-4"][1], b"other", 0, 0)
+    world.blocks(5)
+
+    def damage(key, value):
+        if key.endswith(f"{ENDS['hub-4'][1]}/sequences/2"):
+            value["result"]["response"]["proofOps"] = None
+        return value
+    world.damage = damage
+    flaws, done = world.round(program, status=7)
+    flaws = expect(flaws, "of two channels", world.kinds(), [("zone-1", "URRR")])
+    told = re.findall(r"^left out .*", done.stderr.decode(), re.M)
+    return expect(flaws, "told of two channels", told, ["left out transfers recv 2: NoProof", "left out transfers recv 3: Behind"])
+
+
 def all_good(folder, chain):
     """Writes verdicts that call all votes of a chain's commits good."""
     commits = []
@@ -377,7 +412,7 @@ RUNS = [
     ("unordered", life_of_packets, {"is_ordered": False}), ("ordered", life_of_packets, {"is_ordered": True}),
     ("unordered, several hops", life_of_packets, {"is_ordered": False, "change": 4}), ("ordered, several hops", life_of_packets, {"is_ordered": True, "switch": (20,)}),
     ("several transactions", several_transactions, {}), ("damaged proofs", damaged_proofs, {}),
-    ("damaged acknowledgements", damaged_acknowledgements, {}), ("plain setups", plain_setups, {}),
+    ("damaged acknowledgements", damaged_acknowledgements, {}), ("two channels", two_channels, {}), ("plain setups", plain_setups, {}),
 ]
 
 
