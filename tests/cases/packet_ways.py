@@ -390,6 +390,15 @@ def plain_setups(program, top):
         flaws = expect(flaws, f"files {number}", *({path.name: path.read_bytes() for path in to.iterdir()} for to in (made, old)))
         updates.append(both[0].stdout)
     flaws = expect(flaws, "updates of verified votes", updates[1:], [b"", updates[0]])
+    shutil.rmtree(judged / "transfers")  # nobody sends packets of a script, so it takes no answers on its paths
+    alone = subprocess.run([*program, "messages", str(script), str(judged), str(world.top / "alone")], capture_output=True, check=False)
+    flaws = expect(flaws, "without answers on a path", (alone.returncode, alone.stdout), (0, updates[2]))
+    partly = world.top / "partly"
+    shutil.copytree(answers_folder, partly)
+    for path in (partly / f"hub-4.{BACK}").iterdir():
+        path.write_text("{}")
+    rest = subprocess.run([*program, "messages", str(plain), str(partly), str(world.top / "rest")], capture_output=True, check=False)
+    flaws = expect(flaws, "what is left", (rest.returncode, re.findall(r"^left out (\S+):", rest.stderr.decode(), re.M)), (7, [f"hub-4.{BACK}", "transfers"]))
     unnamed = world.top / "unnamed.toml"
     unnamed.write_text(re.sub(r"^counterparty_.*\n", "", setup.read_text(), flags=re.M))
     done = subprocess.run([*program, "messages", str(unnamed), str(answers_folder), str(world.top / "unnamed")], capture_output=True, check=False)
@@ -405,7 +414,10 @@ def plain_setups(program, top):
         unread = subprocess.run([*program, "messages", str(setup), str(answers_folder), str(world.top / "unread")], capture_output=True, check=False)
         flaws = expect(flaws, f"a folder {kept.name}", (unread.returncode, str(kept) in unread.stderr.decode(), (world.top / "unread").exists()), (4, True, False))
         kept.rmdir()
-    return flaws
+    kept.write_text("")
+    one = subprocess.run([*program, "messages", str(setup), str(answers_folder), str(world.top / "one")], capture_output=True, check=False)
+    flaws = expect(flaws, "asked beside one that is refused", one.stdout.decode().splitlines(), [" ".join(lines[1])])
+    return expect(flaws, "told beside what is asked", re.findall(r"^left out .*", one.stderr.decode(), re.M), ["left out transfers recv 1: NodeRefused"])
 
 
 RUNS = [
