@@ -23,6 +23,7 @@ from lib.relaying.serving import Source
 
 CLIENT, BACK = "07-tendermint-0", "07-tendermint-3"
 ENDS = {"hub-4": ("transfer", "channel-0"), "zone-1": ("transfer", "channel-7")}
+MORE = {"hub-4": ("transfer", "channel-1"), "zone-1": ("transfer", "channel-8")}
 SIGNERS = {"hub-4": "cosmos1qy352eufqy352eufqy352eufqy35qqqz0kg2hh", "zone-1": "zone1qy352eufqy352eufqy352eufqy35qqqz9a8b7c"}
 DENOMS = {"hub-4": "uatom", "zone-1": "ibc/27394FB092D2ECCD56123C74F36E4C1F926001CEADA9CA97EA622B25F41E5EB2"}
 PRICE, FACTOR = (25, 1_000), (6, 5)
@@ -298,6 +299,60 @@ def damaged_proofs(program, top):
     return flaws
 
 
+def damaged_acknowledgements(program, top):
+    """On an ORDERED channel an acknowledgement that isn't proved leaves out those behind it, and no timeout."""
+    world = World(top, "damaged-ack", True)
+    world.send(*[(0, 0)] * 2)
+    world.blocks(5)
+    flaws, _ = world.round(program)
+    world.send((3, 0))
+    world.blocks(20)
+
+    def damage(key, value):
+        if "acks/" in key and key.endswith("sequences/1"):
+            value["result"]["response"]["proofOps"] = None
+        return value
+    world.damage = damage
+    more, done = world.round(program, status=7)
+    flaws = expect(flaws + more, "beside a damaged acknowledgement", world.kinds(), [("hub-4", "UT")])
+    told = re.findall(r"^left out .*", done.stderr.decode(), re.M)
+    return expect(flaws, "told of acknowledgements", told, ["left out transfers ack 1: NoProof", "left out transfers ack 2: Behind"])
+
+
+class TwoChannels(World):
+    """The same with a second channel over the same clients."""
+
+    def __init__(self, top, name, is_ordered):
+        super().__init__(top, name, is_ordered)
+        hub, zone = self.chains.values()
+        more = hub.open(BACK, MORE["hub-4"], is_ordered), zone.open(CLIENT, MORE["zone-1"], is_ordered)
+        more[0].other, more[1].other = more[::-1]
+
+    def setup(self, limits):
+        before, path, turn = re.fullmatch(r"(.*)(\[\[path\]\].*)(\[\[turn\]\].*)", super().setup(limits), re.S).groups()
+        other = path.replace('"transfers"', '"others"').replace(*(f'"{ends["hub-4"][1]}"' for ends in (ENDS, MORE))).replace(*(f'"{ends["zone-1"][1]}"' for ends in (ENDS, MORE)))
+        return before + path + other + turn
+
+
+def two_channels(program, top):
+    """What isn't proved of an ORDERED channel leaves out nothing of another one."""
+    world = TwoChannels(top, "two-channels", True)
+    world.send(*[(0, 0)] * 3)
+    for _ in range(2):
+        world.chains["hub-4"].send(MORE["hub-4"][1], b"other", 0, 0)
+    world.blocks(5)
+
+    def damage(key, value):
+        if key.endswith(f"{ENDS['hub-4'][1]}/sequences/2"):
+            value["result"]["response"]["proofOps"] = None
+        return value
+    world.damage = damage
+    flaws, done = world.round(program, status=7)
+    flaws = expect(flaws, "of two channels", world.kinds(), [("zone-1", "URRR")])
+    told = re.findall(r"^left out .*", done.stderr.decode(), re.M)
+    return expect(flaws, "told of two channels", told, ["left out transfers recv 2: NoProof", "left out transfers recv 3: Behind"])
+
+
 def all_good(folder, chain):
     """Writes verdicts that call all votes of a chain's commits good."""
     commits = []
@@ -335,6 +390,15 @@ def plain_setups(program, top):
         flaws = expect(flaws, f"files {number}", *({path.name: path.read_bytes() for path in to.iterdir()} for to in (made, old)))
         updates.append(both[0].stdout)
     flaws = expect(flaws, "updates of verified votes", updates[1:], [b"", updates[0]])
+    shutil.rmtree(judged / "transfers")  # nobody sends packets of a script, so it takes no answers on its paths
+    alone = subprocess.run([*program, "messages", str(script), str(judged), str(world.top / "alone")], capture_output=True, check=False)
+    flaws = expect(flaws, "without answers on a path", (alone.returncode, alone.stdout), (0, updates[2]))
+    partly = world.top / "partly"
+    shutil.copytree(answers_folder, partly)
+    for path in (partly / f"hub-4.{BACK}").iterdir():
+        path.write_text("{}")
+    rest = subprocess.run([*program, "messages", str(plain), str(partly), str(world.top / "rest")], capture_output=True, check=False)
+    flaws = expect(flaws, "what is left", (rest.returncode, re.findall(r"^left out (\S+):", rest.stderr.decode(), re.M)), (7, [f"hub-4.{BACK}", "transfers"]))
     unnamed = world.top / "unnamed.toml"
     unnamed.write_text(re.sub(r"^counterparty_.*\n", "", setup.read_text(), flags=re.M))
     done = subprocess.run([*program, "messages", str(unnamed), str(answers_folder), str(world.top / "unnamed")], capture_output=True, check=False)
@@ -343,13 +407,24 @@ def plain_setups(program, top):
     lacking = subprocess.run([*program, "messages", str(setup), str(answers_folder), str(world.top / "lacking")], capture_output=True, check=False)
     lines = [line.split() for line in lacking.stdout.decode().splitlines()]
     flaws = expect(flaws, "asked", (lacking.returncode, [line[:2] for line in lines], (world.top / "lacking").exists()), (7, [["get", "hub-4"]] * 2, False))
-    return expect(flaws, "names", [re.sub(r"-\d+\.json$", "", line[3]) for line in lines], [f"transfers/proofs/recv-{n}" for n in (1, 2)])
+    flaws = expect(flaws, "names", [re.sub(r"-\d+\.json$", "", line[3]) for line in lines], [f"transfers/proofs/recv-{n}" for n in (1, 2)])
+    for ending in (".json", ".refused"):  # what stands in the place of an answer and can't be read is no answer that isn't there
+        kept = (answers_folder / lines[0][3]).with_suffix(ending)
+        kept.mkdir(parents=True)
+        unread = subprocess.run([*program, "messages", str(setup), str(answers_folder), str(world.top / "unread")], capture_output=True, check=False)
+        flaws = expect(flaws, f"a folder {kept.name}", (unread.returncode, str(kept) in unread.stderr.decode(), (world.top / "unread").exists()), (4, True, False))
+        kept.rmdir()
+    kept.write_text("")
+    one = subprocess.run([*program, "messages", str(setup), str(answers_folder), str(world.top / "one")], capture_output=True, check=False)
+    flaws = expect(flaws, "asked beside one that is refused", one.stdout.decode().splitlines(), [" ".join(lines[1])])
+    return expect(flaws, "told beside what is asked", re.findall(r"^left out .*", one.stderr.decode(), re.M), ["left out transfers recv 1: NodeRefused"])
 
 
 RUNS = [
     ("unordered", life_of_packets, {"is_ordered": False}), ("ordered", life_of_packets, {"is_ordered": True}),
     ("unordered, several hops", life_of_packets, {"is_ordered": False, "change": 4}), ("ordered, several hops", life_of_packets, {"is_ordered": True, "switch": (20,)}),
-    ("several transactions", several_transactions, {}), ("damaged proofs", damaged_proofs, {}), ("plain setups", plain_setups, {}),
+    ("several transactions", several_transactions, {}), ("damaged proofs", damaged_proofs, {}),
+    ("damaged acknowledgements", damaged_acknowledgements, {}), ("two channels", two_channels, {}), ("plain setups", plain_setups, {}),
 ]
 
 

@@ -5,7 +5,7 @@ use Rattle.std.specs.Global.{Global}
 use Rattle.std.specs.List.{All, AllZip}
 use Rattle.std.proofs.lemmas.List.Elements.{All-push}
 use Rattle.rb_messages.proofs.Zipped.{zipped_more}
-use Rattle.rb_packet_messages.specs.Messages.{Due, IsProven}
+use Rattle.rb_packet_messages.specs.Messages.{Due, IsProven, file_of}
 use Rattle.rb_packet_messages.specs.declared.facts.PathAnswer.{PathAnswer}
 use Rattle.rb_plan_client.specs.Task.{Message}
 use Rattle.rb_script_types.specs.declared.config.Config.{Config}
@@ -13,7 +13,7 @@ use Rattle.rb_script_types.specs.declared.config.PathConfig.{PathConfig}
 use Rattle.rb_sending.specs.declared.batch.PlannedBatch.{PlannedBatch}
 use Rattle.rb_packet_messages.specs.Facts.{IsAnswerOf}
 use Rattle.ibcplan_folders.specs.Folders.{AnswerFile, OfKnown, content}
-use Rattle.ibcplan_folders.specs.Packets.{IsDue, IsTextOf, WasRead}
+use Rattle.ibcplan_folders.specs.Packets.{IsDue, IsTextOf, WasRead, proofs_of}
 
 pub some_read : (W : PathAnswer → Type 0) (o : Option PathAnswer) (a : PathAnswer) → o ≡ Some a → IfSome o W → W a
 some_read W o a is told = subst (λ (x : Option PathAnswer). IfSome x W) is told
@@ -39,6 +39,15 @@ pub beside_more : {A B : Type 0} (R : A → B → Type 0) (xs : List A) (i : ℕ
     → i < length xs → x ≡ get_or xs i x → R x y → AllZip R (take i xs) ys → AllZip R (take (i + 1) xs) zs
 beside_more R xs i x ys zs y more lt is one all = subst (AllZip R (take (i + 1) xs)) (sym more) (zipped_more R xs i x ys y lt is one all)
 
-pub proven_text : (config : Config Global) (batch : PlannedBatch) (answers : List PathAnswer) (signer : List ℕ) (path : PathConfig) (m : Message) (text : List ℕ)
-    (d : Due) (answer : List ℕ) → IsDue config batch answers path m d → IsProven d signer answer text → IsTextOf config batch answers signer path m text
-proven_text config batch answers signer path m text d answer due proven = record { due = d; answer = answer; is_due = due; is_proven = proven }
+-- a text of an answer that stands in the file that was asked for
+pub proven_text : (known : Option (List AnswerFile)) (config : Config Global) (batch : PlannedBatch) (answers : List PathAnswer) (signer : List ℕ) (path : PathConfig) (m : Message) (text : List ℕ)
+    (d : Due) (answer bytes id file : List ℕ) → IsDue config batch answers path m d → IsProven d signer answer text → answer ≡ bytes → id ≡ path.id → file ≡ file_of d
+    → OfKnown known (λ files. content (proofs_of id) file files ≡ Some bytes) → IsTextOf known config batch answers signer path m text
+proven_text known config batch answers signer path m text d answer bytes id file due proven same of_path asked there = record {
+  due = d;
+  answer = bytes;
+  is_due = due;
+  is_proven = subst (λ (a : List ℕ). IsProven d signer a text) same proven;
+  of_file = subst (λ (f : List ℕ). OfKnown known (λ files. content (proofs_of path.id) f files ≡ Some bytes)) asked
+      (subst (λ (i : List ℕ). OfKnown known (λ files. content (proofs_of i) file files ≡ Some bytes)) of_path there);
+}

@@ -1,6 +1,6 @@
 //! Importing: the files of a folder are read, and the script that they make is given, or written, without the clients and
 //! the paths whose answers are refused.
-ghost use Rattle.std.specs.Prelude.{◌≡◌, ◌∷◌, ◌++◌, [], IfOk, MatchOption, Ok, OnOk, is_some, map, slice_get, string_bytes, true};
+ghost use Rattle.std.specs.Prelude.{◌≡◌, ◌∷◌, ◌++◌, [], IfOk, MatchOption, Ok, OnOk, codes, is_some, map, slice_get, string_bytes, true};
 ghost use Rattle.std.specs.List.{AllZip, enumerate_from};
 ghost use Rattle.sha2.specs.Sha256.{sha256};
 ghost use Rattle.rb_import_answers.specs.Answers.{answer_view, told_in, verdicts_file, without_votes};
@@ -546,7 +546,9 @@ pub fn of_file<'a, F: AnswerFolders>(
 }
 
 /// The path of what a folder has under a name.
-pub fn path_in<'a>(alloc: Global, folder: &str, name: &str) -> Result<String, ProgramError<'a>> {
+pub fn path_in<'a>(alloc: Global, folder: &str, name: &str) -> Result<String, ProgramError<'a>>
+    ensures { IfOk result (λ path. string_bytes path ≡ folder.now ++ codes "/" ++ name.now) }
+{
     match format!(in alloc; "{folder}/{name}") {
         Ok(path) => Ok(path),
         Err(_) => Err(ProgramError::NoMemory),

@@ -5,7 +5,8 @@ ghost use Rattle.rb_import_answers.specs.Revisions.{IsRevision};
 ghost use Rattle.rb_packet_messages.specs.Ends.{ends_in};
 ghost use Rattle.rb_packet_messages.specs.Facts.{AreFactsIn, answer_view, facts_view};
 ghost use Rattle.rb_packet_messages.specs.Messages.{due_view};
-ghost use Rattle.ibcplan_folders.specs.Packets.{ArePacketTexts, IsDue, IsTextOf, StandFor, StandsFor, WasRead, WereRead, WereReadOf, answers_at};
+ghost use Rattle.ibcplan_folders.specs.Folders.{OfKnown, content};
+ghost use Rattle.ibcplan_folders.specs.Packets.{ArePacketTexts, IsDue, IsTextOf, StandFor, StandsFor, WasRead, WereRead, WereReadOf, answers_at, proofs_of};
 
 use crate::answer_folders::AnswerFolders;
 use crate::importing::{add, of_file, of_folder, path_in};
@@ -60,10 +61,9 @@ struct Known {
     app_hash: [u8; 32],
 }
 
-/// What a node answered that was asked for a proof.
-#[derive(Drop)]
-enum ProofAnswer {
-    There(Vec<u8>),
+/// Why there is no answer of a node that was asked for a proof.
+#[derive(Clone, Copy)]
+enum NoAnswer {
     Refused,
     Missing,
 }
@@ -121,7 +121,7 @@ fn texts_of<'a, F: AnswerFolders>(
     batch: &PlannedBatch,
     lines: &mut Lines,
 ) -> Result<Vec<Option<String>>, ProgramError<'a>>
-    ensures { IfOk result (StandFor config.now senders.now answers.now batch.now) }
+    ensures { IfOk result (StandFor (F.known files.now) config.now senders.now answers.now batch.now) }
 {
     match sender_to(senders, batch.host) {
         Some(sender) => {
@@ -224,7 +224,7 @@ fn batch_texts<'a, F: AnswerFolders>(
     source: &Source<'_>,
     lines: &mut Lines,
 ) -> Result<Vec<Option<String>>, ProgramError<'a>>
-    ensures { IfOk result (λ texts. AllZip (StandsFor source.now.config.now source.now.batch.now source.now.answers.now source.now.signer.now) source.now.batch.now.messages.items texts.items) }
+    ensures { IfOk result (λ texts. AllZip (StandsFor (F.known files.now) source.now.config.now source.now.batch.now source.now.answers.now source.now.signer.now) source.now.batch.now.messages.items texts.items) }
 {
     let mut texts = Vec::new(files.alloc());
     let mut stops = Vec::new(files.alloc());
@@ -244,7 +244,7 @@ fn text_for<'a, F: AnswerFolders>(
     stops: &mut Vec<Stop>,
     lines: &mut Lines,
 ) -> Result<Option<String>, ProgramError<'a>>
-    ensures { IfOk result (StandsFor source.now.config.now source.now.batch.now source.now.answers.now source.now.signer.now message.now) }
+    ensures { IfOk result (StandsFor (F.known files.now) source.now.config.now source.now.batch.now source.now.answers.now source.now.signer.now message.now) }
 {
     let Some(path) = source.config.paths.get(message.path()) else {
         return Ok(None);
@@ -322,7 +322,7 @@ fn outcome_of<'a, F: AnswerFolders>(
     message: &Message,
     stops: &[Stop],
 ) -> Result<Result<String, Unmade>, ProgramError<'a>>
-    ensures { IfOk result (λ outcome. IfOk outcome (λ text. IsTextOf source.now.config.now source.now.batch.now (answers_at source.now.answers.now message.now.path) source.now.signer.now path.now message.now (string_bytes text))) }
+    ensures { IfOk result (λ outcome. IfOk outcome (λ text. IsTextOf (F.known files.now) source.now.config.now source.now.batch.now (answers_at source.now.answers.now message.now.path) source.now.signer.now path.now message.now (string_bytes text))) }
 {
     if is_behind(stops, message.path(), message.packet().kind) {
         return not_made(files, path, None, PacketError::Behind);
@@ -337,16 +337,14 @@ fn outcome_of<'a, F: AnswerFolders>(
     };
     let file = request.file.as_str();
     match proof_answer(files, path.id.as_str(), file)? {
-        ProofAnswer::Missing => Ok(Err(Unmade::Wanted(request))),
-        ProofAnswer::Refused => {
+        Ok(bytes) => match message_text(files.alloc(), &due, source.signer, bytes.as_slice()) {
+            Ok(text) => Ok(Ok(text)),
+            Err(error) => not_made(files, path, Some(file), error),
+        },
+        Err(NoAnswer::Missing) => Ok(Err(Unmade::Wanted(request))),
+        Err(NoAnswer::Refused) => {
             let error = PacketError::NodeRefused;
             not_made(files, path, Some(file), error)
-        }
-        ProofAnswer::There(bytes) => {
-            match message_text(files.alloc(), &due, source.signer, bytes.as_slice()) {
-                Ok(text) => Ok(Ok(text)),
-                Err(error) => not_made(files, path, Some(file), error),
-            }
         }
     }
 }
@@ -461,30 +459,32 @@ fn proof_answer<'a, F: AnswerFolders>(
     files: &F,
     path: &str,
     file: &str,
-) -> Result<ProofAnswer, ProgramError<'a>> {
+) -> Result<Result<Vec<u8>, NoAnswer>, ProgramError<'a>>
+    ensures { IfOk result (λ answer. IfOk answer (λ bytes. OfKnown (F.known files.now) (λ known. content (proofs_of path.now) file.now known ≡ Some bytes.items))) }
+{
     let proofs = path_in(files.alloc(), path, "proofs")?;
     match files.read(proofs.as_str(), file) {
-        Ok(bytes) => Ok(ProofAnswer::There(bytes)),
+        Ok(bytes) => Ok(Ok(bytes)),
         Err(error) if error.kind() == io::ErrorKind::NotFound => {
-            refused_answer(files, proofs.as_str(), file)
+            Ok(Err(no_answer(files, proofs.as_str(), file)?))
         }
         Err(error) => Err(of_file(files, proofs.as_str(), file, error)),
     }
 }
 
 /// Whether a node refused to answer: the file stands there with another ending.
-fn refused_answer<'a, F: AnswerFolders>(
+fn no_answer<'a, F: AnswerFolders>(
     files: &F,
     proofs: &str,
     file: &str,
-) -> Result<ProofAnswer, ProgramError<'a>> {
+) -> Result<NoAnswer, ProgramError<'a>> {
     let name = file.strip_suffix(".json").unwrap_or(file);
     let Ok(refused) = format!(in files.alloc(); "{name}.refused") else {
         return Err(ProgramError::NoMemory);
     };
     match files.read(proofs, refused.as_str()) {
-        Ok(_) => Ok(ProofAnswer::Refused),
-        Err(error) if error.kind() == io::ErrorKind::NotFound => Ok(ProofAnswer::Missing),
+        Ok(_) => Ok(NoAnswer::Refused),
+        Err(error) if error.kind() == io::ErrorKind::NotFound => Ok(NoAnswer::Missing),
         Err(error) => Err(of_file(files, proofs, refused.as_str(), error)),
     }
 }

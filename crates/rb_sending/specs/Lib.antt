@@ -1,4 +1,5 @@
 pub mod Updates
+pub mod Least
 pub mod Batches
 pub mod Texts
 pub mod Transactions

@@ -3,6 +3,7 @@
 #![tactic(auto)]
 
 mod batch;
+pub mod laws;
 mod planned;
 mod shell;
 mod transaction_text;

@@ -9,7 +9,7 @@ use Rattle.ibcplan_folders.proofs.packets.batch_texts.Goals as goal
 pub loop-message-preserved : goal.loop-message-preserved
 loop-message-preserved g c =
     let source = c.args.source.now in
-    let fits = StandsFor source.config.now source.batch.now source.answers.now source.signer.now in
+    let fits = StandsFor (g.F.AnswerFolders.known c.args.files.now) source.config.now source.batch.now source.answers.now source.signer.now in
     let place = c.loop-message.message-index in
     let is = c.deref-message-items.ensures.value in
     let before = subst (λ (xs : List Message). AllZip fits (take place xs) c.loop-message.texts.items) (sym is) c.loop-message.invariant in
@@ -20,7 +20,7 @@ loop-message-preserved g c =
 pub returns : goal.returns
 returns g c =
     let source = c.args.source.now in
-    let fits = StandsFor source.config.now source.batch.now source.answers.now source.signer.now in
+    let fits = StandsFor (g.F.AnswerFolders.known c.args.files.now) source.config.now source.batch.now source.answers.now source.signer.now in
     let place = c.loop-message.message-index in
     let past = subst (λ (xs : List Message). length xs ≤ place) c.deref-message-items.ensures.value (omega arith) in
     zipped_all fits source.batch.now.messages.items place c.loop-message.texts.items past c.loop-message.invariant

@@ -5,4 +5,4 @@ use Rattle.ibcplan_folders.proofs.packets.packet_texts.Given as goal
 
 -- the texts of the first batches are made
 abbrev pub invariant-loop-batch : goal.invariant-loop-batch
-invariant-loop-batch g l = AllZip (StandFor l.config l.senders l.answers) (take l.batch-index l.batches) l.texts.items
+invariant-loop-batch g l = AllZip (StandFor (g.F.AnswerFolders.known l.files) l.config l.senders l.answers) (take l.batch-index l.batches) l.texts.items
