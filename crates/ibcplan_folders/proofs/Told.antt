@@ -5,13 +5,13 @@ use Rattle.std.specs.Global.{Global}
 use Rattle.std.specs.List.{All, AllZip}
 use Rattle.std.proofs.lemmas.List.Elements.{All-push}
 use Rattle.rb_messages.proofs.Zipped.{zipped_more}
-use Rattle.rb_packet_messages.specs.Messages.{Due, IsProven, file_of}
-use Rattle.rb_packet_messages.specs.declared.facts.PathAnswer.{PathAnswer}
+use Rattle.rb_packets.specs.Messages.{Due, IsProven, file_of}
+use Rattle.rb_packets.specs.declared.facts.PathAnswer.{PathAnswer}
 use Rattle.rb_plan_client.specs.Task.{Message}
 use Rattle.rb_script_types.specs.declared.config.Config.{Config}
 use Rattle.rb_script_types.specs.declared.config.PathConfig.{PathConfig}
 use Rattle.rb_sending.specs.declared.batch.PlannedBatch.{PlannedBatch}
-use Rattle.rb_packet_messages.specs.Facts.{IsAnswerOf}
+use Rattle.rb_packets.specs.Facts.{IsAnswerOf}
 use Rattle.ibcplan_folders.specs.Folders.{AnswerFile, OfKnown, content}
 use Rattle.ibcplan_folders.specs.Packets.{IsDue, IsTextOf, WasRead, proofs_of}
 

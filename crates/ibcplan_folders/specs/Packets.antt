@@ -5,10 +5,10 @@ use Rattle.std.specs.List.{AllZip}
 use Rattle.std.specs.Option.{option_map_or}
 use Rattle.rb_import_answers.specs.Revisions.{IsRevision}
 use Rattle.rb_import_setup.specs.declared.sender.Sender.{Sender}
-use Rattle.rb_packet_messages.specs.Ends.{ends_in}
-use Rattle.rb_packet_messages.specs.Facts.{AreFactsIn, IsAnswerOf, answer_view}
-use Rattle.rb_packet_messages.specs.Messages.{Due, IsProven, file_of}
-use Rattle.rb_packet_messages.specs.declared.facts.PathAnswer.{PathAnswer}
+use Rattle.rb_packets.specs.Ends.{ends_in}
+use Rattle.rb_packets.specs.Facts.{AreFactsIn, IsAnswerOf, answer_view}
+use Rattle.rb_packets.specs.Messages.{Due, IsProven, file_of}
+use Rattle.rb_packets.specs.declared.facts.PathAnswer.{PathAnswer}
 use Rattle.rb_plan_client.specs.Task.{Message}
 use Rattle.rb_script_types.specs.declared.config.Config.{Config}
 use Rattle.rb_script_types.specs.declared.config.PathConfig.{PathConfig}

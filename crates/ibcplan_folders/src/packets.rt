@@ -2,9 +2,9 @@
 ghost use Rattle.std.specs.Prelude.{◌≡◌, [], All, IfOk, IfSome, IsSomeAnd, OnOk, Some, map, slice_index_or, string_bytes};
 ghost use Rattle.std.specs.List.{AllZip};
 ghost use Rattle.rb_import_answers.specs.Revisions.{IsRevision};
-ghost use Rattle.rb_packet_messages.specs.Ends.{ends_in};
-ghost use Rattle.rb_packet_messages.specs.Facts.{AreFactsIn, answer_view, facts_view};
-ghost use Rattle.rb_packet_messages.specs.Messages.{due_view};
+ghost use Rattle.rb_packets.specs.Ends.{ends_in};
+ghost use Rattle.rb_packets.specs.Facts.{AreFactsIn, answer_view, facts_view};
+ghost use Rattle.rb_packets.specs.Messages.{due_view};
 ghost use Rattle.ibcplan_folders.specs.Folders.{OfKnown, content};
 ghost use Rattle.ibcplan_folders.specs.Packets.{ArePacketTexts, IsDue, IsTextOf, StandFor, StandsFor, WasRead, WereRead, WereReadOf, answers_at, proofs_of};
 
@@ -15,11 +15,10 @@ use rb_base::ChainId;
 use rb_import_answers::revision_of;
 use rb_import_setup::Sender;
 use rb_messages::id_of;
-use rb_packet_messages::{
-    DueMessage, Ends, PacketError, PacketFacts, PathAnswer, ProofRequest, ends_of, facts_of,
-    message_text, read_path_answer, request_of,
+use rb_packets::{
+    DueMessage, Ends, PacketError, PacketFacts, PathAnswer, ProofRequest, RevisionHeight, ends_of,
+    facts_of, message_text, read_path_answer, request_of,
 };
-use rb_packets::RevisionHeight;
 use rb_plan_client::Message;
 use rb_scan::{Kind, Order};
 use rb_script_types::{Config, PathConfig};

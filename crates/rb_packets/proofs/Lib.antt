@@ -1,3 +1,4 @@
 pub mod JsonText
+pub mod ProvenTexts
 pub mod Refusals
 pub mod Texts

@@ -2,10 +2,13 @@ pub mod Answers
 pub mod Asking
 pub mod Attributes
 pub mod Claims
+pub mod Ends
 pub mod Events
+pub mod Facts
 pub mod Json
 pub mod Judging
 pub mod MessageTexts
+pub mod Messages
 pub mod PacketTexts
 pub mod Packets
 pub mod Proving

@@ -2,11 +2,13 @@
 ghost use Rattle.std.specs.Prelude.{◌≡◌, IfOk, string_bytes};
 ghost use Rattle.rb_packets.specs.Packets.{packet_view};
 ghost use Rattle.rb_packets.specs.Claims.{claim_view};
-ghost use Rattle.rb_packet_messages.specs.Messages.{asked_of, claim_of, due_view, file_of, packet_of};
+ghost use Rattle.rb_packets.specs.Messages.{asked_of, claim_of, due_view, file_of, packet_of};
 
+use crate::asking::{file_name, query_of};
+use crate::claim::Claim;
 use crate::ends::Ends;
 use crate::facts::PacketFacts;
-use rb_packets::{Claim, Packet, RevisionHeight, file_name, query_of};
+use crate::packet::{Packet, RevisionHeight};
 use rb_scan::{Kind, Order};
 use std::alloc::{AllocError, Global};
 

@@ -4,7 +4,7 @@ use Rattle.rb_packets.specs.Answers.{StoreAnswer, store_answer}
 use Rattle.rb_packets.specs.Judging.{if_answer, judged, judged_answer, proven_by}
 use Rattle.rb_packets.specs.Proving.{proves}
 use Rattle.rb_packets.specs.declared.judging.ProofError.TheVariants.{NotProven}
-use Rattle.rb_packet_messages.specs.Messages.{Due, IsProven, claim_of, message_of, packet_of, text_by}
+use Rattle.rb_packets.specs.Messages.{Due, IsProven, claim_of, message_of, packet_of, text_by}
 
 made : (d : Due) (signer answer : List ℕ) → IfOk (message_of d signer answer) (IsProven d signer answer)
 unfolding judged judged_answer

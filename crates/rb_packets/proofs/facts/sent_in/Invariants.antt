@@ -1,6 +1,6 @@
 use Rattle.std.proofs.Common.{◌≡◌, drop, map}
-use Rattle.rb_packet_messages.specs.Facts.{answer_view, sent_in}
-use Rattle.rb_packet_messages.proofs.facts.sent_in.Given as goal
+use Rattle.rb_packets.specs.Facts.{answer_view, sent_in}
+use Rattle.rb_packets.proofs.facts.sent_in.Given as goal
 
 -- the first answer that tells it is among those that are left
 abbrev pub invariant-loop-answer : goal.invariant-loop-answer

@@ -1,6 +1,6 @@
 //! The ends of a path's channel.
 ghost use Rattle.std.specs.Prelude.{◌≡◌};
-ghost use Rattle.rb_packet_messages.specs.Ends.{ends_in};
+ghost use Rattle.rb_packets.specs.Ends.{ends_in};
 
 use rb_script_types::{Channel, ChannelEnd};
 

@@ -14,11 +14,11 @@ use Rattle.rb_scan.specs.declared.message.Kind.{Kind}
 use Rattle.rb_scan.specs.declared.message.Kind.TheVariants.{Receive, Acknowledge, Timeout}
 use Rattle.rb_scan.specs.declared.path.Order.{Order}
 use Rattle.rb_scan.specs.declared.path.Order.TheVariants.{Ordered, Unordered}
-use Rattle.rb_packet_messages.specs.declared.due.DueMessage.{DueMessage}
-use Rattle.rb_packet_messages.specs.declared.ends.Ends.{Ends}
-use Rattle.rb_packet_messages.specs.declared.error.PacketError.{PacketError}
-use Rattle.rb_packet_messages.specs.declared.error.PacketError.TheVariants.{NoMemory, NoProof, NotProven}
-use Rattle.rb_packet_messages.specs.Facts.{Facts, facts_view}
+use Rattle.rb_packets.specs.declared.due.DueMessage.{DueMessage}
+use Rattle.rb_packets.specs.declared.ends.Ends.{Ends}
+use Rattle.rb_packets.specs.declared.error.PacketError.{PacketError}
+use Rattle.rb_packets.specs.declared.error.PacketError.TheVariants.{NoMemory, NoProof, NotProven}
+use Rattle.rb_packets.specs.Facts.{Facts, facts_view}
 
 pub record Due : Type 0 where
   pub kind : Kind

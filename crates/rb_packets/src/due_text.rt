@@ -2,16 +2,18 @@
 ghost use Rattle.std.specs.Prelude.{◌≡◌, ◌⊎◌, Ok, Err, IfOk, IfErr, string_bytes};
 ghost use Rattle.rb_packets.specs.Claims.{claim_view};
 ghost use Rattle.rb_packets.specs.MessageTexts.{action_view};
-ghost use Rattle.rb_packet_messages.specs.Messages.{IsProven, action_of, due_view, message_of};
-ghost use Rattle.rb_packet_messages.specs.declared.error.PacketError.TheVariants.{NoMemory};
+ghost use Rattle.rb_packets.specs.Messages.{IsProven, action_of, due_view, message_of};
+ghost use Rattle.rb_packets.specs.declared.error.PacketError.TheVariants.{NoMemory};
 
+use crate::claim::Claim;
 use crate::due::{DueMessage, claim_of, packet_of};
 use crate::error::PacketError;
-use rb_packets::{Action, Claim, PacketMessage, judge, packet_message_text};
+use crate::judging::judge;
+use crate::message::{Action, PacketMessage, packet_message_text};
 use std::alloc::Global;
 
 /// The text of a message that is due and that an account signs, by an answer, which has to prove it.
-#[tactic(auto, using(crate::proofs::Proven::proven))]
+#[tactic(auto, using(crate::proofs::ProvenTexts::proven))]
 pub fn message_text(
     alloc: Global,
     due: &DueMessage<'_>,

@@ -17,10 +17,10 @@ use Rattle.rb_packets.specs.declared.packet.RevisionHeight.{RevisionHeight}
 use Rattle.rb_scan.specs.declared.message.Kind.{Kind}
 use Rattle.rb_scan.specs.declared.message.Kind.TheVariants.{Receive, Acknowledge, Timeout}
 use Rattle.rb_script_types.specs.Channels.{end_text}
-use Rattle.rb_packet_messages.specs.declared.ends.Ends.{Ends}
-use Rattle.rb_packet_messages.specs.declared.facts.PacketFacts.{PacketFacts}
-use Rattle.rb_packet_messages.specs.declared.facts.PathAnswer.{PathAnswer}
-use Rattle.rb_packet_messages.specs.declared.facts.SentPacket.{SentPacket}
+use Rattle.rb_packets.specs.declared.ends.Ends.{Ends}
+use Rattle.rb_packets.specs.declared.facts.PacketFacts.{PacketFacts}
+use Rattle.rb_packets.specs.declared.facts.PathAnswer.{PathAnswer}
+use Rattle.rb_packets.specs.declared.facts.SentPacket.{SentPacket}
 
 -- an answer: the events of packets, and its JSON
 pub record Answer : Type 0 where

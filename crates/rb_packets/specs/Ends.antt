@@ -3,7 +3,7 @@ use Rattle.std.specs.Prelude.{Option, option_and_then}
 use Rattle.std.specs.Option.{option_map}
 use Rattle.rb_script_types.specs.declared.channel.Channel.{Channel}
 use Rattle.rb_script_types.specs.declared.channel.ChannelEnd.{ChannelEnd}
-use Rattle.rb_packet_messages.specs.declared.ends.Ends.{Ends}
+use Rattle.rb_packets.specs.declared.ends.Ends.{Ends}
 
 -- both ends, if both are named
 abbrev pub ends_in : Option Channel → Option Ends

@@ -1,6 +1,6 @@
 //! What transactions tell of a packet.
 ghost use Rattle.std.specs.Prelude.{◌≡◌, IfOk, IfSome, Some, map, option_map, string_bytes};
-ghost use Rattle.rb_packet_messages.specs.Facts.{AreFactsIn, IsAnswerOf, acknowledgement_in, answer_view, facts_view, is_sending, is_sent, needed_acknowledgement, packets_in, sent_event, sent_in, sent_of, sent_view, way_of};
+ghost use Rattle.rb_packets.specs.Facts.{AreFactsIn, IsAnswerOf, acknowledgement_in, answer_view, facts_view, is_sending, is_sent, needed_acknowledgement, packets_in, sent_event, sent_in, sent_of, sent_view, way_of};
 ghost use Rattle.rb_import_answers.specs.Answers.{told};
 ghost use Rattle.rb_import_answers.specs.Packets.{packet_view};
 ghost use Rattle.rb_packets.specs.Events.{way_view};
@@ -8,9 +8,11 @@ ghost use Rattle.rb_script_types.specs.Channels.{end_text};
 
 use crate::ends::Ends;
 use crate::error::PacketError;
+use crate::event::{PacketBytes, PacketWay};
+use crate::packet::RevisionHeight;
+use crate::transactions::{Transactions, read_transactions};
 use rb_import_answers::{NodeAnswer, PacketEvent, PacketKind, PacketPage, read_answer};
 use rb_import_json::AnswerError;
-use rb_packets::{PacketBytes, PacketWay, RevisionHeight, Transactions, read_transactions};
 use rb_scan::Kind;
 use rb_script_types::ChannelEnd;
 use std::alloc::{AllocError, Global};

@@ -1,5 +1,5 @@
 //! Why a packet message isn't made.
-use rb_packets::ProofError;
+use crate::judging::ProofError;
 use std::alloc::{AllocError, AllocFailed};
 use std::fmt;
 
@@ -73,7 +73,7 @@ impl fmt::Display for PacketError {
 
 impl From<AllocError> for PacketError {
     ghost use Rattle.std.specs.Prelude.{◌≡◌};
-    ghost use Rattle.rb_packet_messages.specs.declared.error.PacketError.TheVariants.{NoMemory};
+    ghost use Rattle.rb_packets.specs.declared.error.PacketError.TheVariants.{NoMemory};
 
     ghost from_gives = { λ _ e. e ≡ NoMemory };
 
@@ -84,7 +84,7 @@ impl From<AllocError> for PacketError {
 
 impl<T: Drop> From<AllocFailed<T>> for PacketError {
     ghost use Rattle.std.specs.Prelude.{◌≡◌};
-    ghost use Rattle.rb_packet_messages.specs.declared.error.PacketError.TheVariants.{NoMemory};
+    ghost use Rattle.rb_packets.specs.declared.error.PacketError.TheVariants.{NoMemory};
 
     ghost from_gives = { λ _ e. e ≡ NoMemory };
 
@@ -95,7 +95,7 @@ impl<T: Drop> From<AllocFailed<T>> for PacketError {
 
 impl From<ProofError> for PacketError {
     ghost use Rattle.std.specs.Prelude.{◌≡◌};
-    ghost use Rattle.rb_packet_messages.specs.Messages.{error_of};
+    ghost use Rattle.rb_packets.specs.Messages.{error_of};
 
     ghost from_gives = { λ proof e. e ≡ error_of proof };
 
