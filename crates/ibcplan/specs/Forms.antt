@@ -3,10 +3,10 @@ use Rattle.std.specs.Prelude.{◌≡◌, ℕ, Bool, List, ◌++◌, map, if◌th
 use Rattle.std.specs.List.{enumerate_from, flat_map}
 use Rattle.std.specs.declared.alloc.Global.{Global}
 use Rattle.rb_core.specs.Core.{Core, state_in}
-use Rattle.rb_health.specs.Health.{health_in}
-use Rattle.rb_health.specs.Lines.{HasClients, line_text}
-use Rattle.rb_health.specs.Metrics.{client_text, head}
-use Rattle.rb_health.specs.declared.health.ClientHealth.{ClientHealth}
+use Rattle.rb_text_report.specs.Health.{health_in}
+use Rattle.rb_text_report.specs.Lines.{HasClients, line_text}
+use Rattle.rb_text_report.specs.Metrics.{client_text, head}
+use Rattle.rb_text_report.specs.declared.health.ClientHealth.{ClientHealth}
 use Rattle.rb_script_config.specs.Paths.{path_ids}
 use Rattle.rb_script_types.specs.Script.{Script}
 use Rattle.rb_super_scripts.specs.AsEvents.{as_events}

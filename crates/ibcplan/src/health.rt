@@ -4,9 +4,9 @@ ghost use Rattle.rb_script_types.specs.Script.{script_view, IsReadScript};
 ghost use Rattle.ibcplan.specs.Forms.{IsHealthOf};
 
 use rb_base::Gate;
-use rb_health::{healths_of, metrics_of, text_of};
 use rb_script_types::Script;
 use rb_super::run_to_end;
+use rb_text_report::{healths_of, metrics_of, text_of};
 use std::alloc::{AllocError, Global};
 use std::thread::Threads;
 

@@ -1,3 +1,5 @@
 pub mod Beginnings
 pub mod Labels
 pub mod Numbered
+pub mod Opened
+pub mod Shown

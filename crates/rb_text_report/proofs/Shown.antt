@@ -8,7 +8,7 @@ use Rattle.rb_core_model.specs.Refusal.{refused_if}
 use Rattle.rb_plan_client.specs.Draft.{Job}
 use Rattle.rb_script_types.specs.declared.refusal.Refusal.{Refusal}
 use Rattle.rb_script_types.specs.declared.refusal.Refusal.TheVariants.{UnknownObject, OutOfOrder}
-use Rattle.rb_health.specs.Health.{newest_expiry, expiry_in}
+use Rattle.rb_text_report.specs.Health.{newest_expiry, expiry_in}
 
 unshown : {X Y W : Type 0} (xs : List X) (i : ℕ) (w : Option W) (f : W → X → Y) (r : Refusal)
     → refused_if (not (nat_lt i (length xs))) UnknownObject (refused_if (is_none w) OutOfOrder None) ≡ Some r → option_and_then (λ v. option_map (f v) (slice_get xs i)) w ≡ None

@@ -1,8 +1,8 @@
 use Rattle.std.proofs.Common.{◌≡◌, ◌++◌, drop, map}
 use Rattle.std.specs.List.{enumerate_from}
 use Rattle.rb_core.specs.Core.{state_in}
-use Rattle.rb_health.specs.Health.{health_in}
-use Rattle.rb_health.proofs.health.healths_in.Given as goal
+use Rattle.rb_text_report.specs.Health.{health_in}
+use Rattle.rb_text_report.proofs.health.healths_in.Given as goal
 
 -- the clients that are listed, and those that are left
 abbrev pub invariant-loop-place : goal.invariant-loop-place

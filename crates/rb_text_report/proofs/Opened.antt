@@ -1,7 +1,7 @@
 -- A text without its end, where it has it.
 use Rattle.std.proofs.Common.{ℕ, List, None, refl, inl, inr}
 use Rattle.std.specs.Str.Pattern.{FindsTextSuffix, StripsSuffix}
-use Rattle.rb_health.specs.Lines.{end, IsOpened}
+use Rattle.rb_text_report.specs.Lines.{end, IsOpened}
 
 -- what stands before an end
 pub opened-some : (report rest : List ℕ) → StripsSuffix (FindsTextSuffix end) report rest → IsOpened report rest

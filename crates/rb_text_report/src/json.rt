@@ -1,7 +1,7 @@
 //! The clients as a part of a report's JSON. Identifiers have no character that JSON escapes.
 ghost use Rattle.std.specs.Prelude.{◌≡◌, ◌++◌, IfOk, OnOk, string_bytes};
 ghost use Rattle.std.specs.List.{flat_map};
-ghost use Rattle.rb_health.specs.Lines.{clients_member, client_json, elements, expiry_members, next_json, HasClients, IsOpened};
+ghost use Rattle.rb_text_report.specs.Lines.{clients_member, client_json, elements, expiry_members, next_json, HasClients, IsOpened};
 
 use crate::expiry::Expiry;
 use crate::health::ClientHealth;

@@ -1,7 +1,7 @@
 //! A line for each client.
 ghost use Rattle.std.specs.Prelude.{◌≡◌, ◌++◌, IfOk, OnOk, string_bytes};
 ghost use Rattle.std.specs.List.{flat_map};
-ghost use Rattle.rb_health.specs.Lines.{distance_text, expiry_text, line_text, moment_part, state_text};
+ghost use Rattle.rb_text_report.specs.Lines.{distance_text, expiry_text, line_text, moment_part, state_text};
 
 use crate::expiry::Expiry;
 use crate::health::ClientHealth;

@@ -3,8 +3,8 @@ use Rattle.std.specs.Prelude.{ℕ, ◌/◌, List, [], ◌++◌, codes, slice_ind
 use Rattle.std.specs.Option.{option_map_or}
 use Rattle.std.specs.Fmt.{decimal}
 use Rattle.rb_script_types.specs.declared.config.ClientConfig.{ClientConfig}
-use Rattle.rb_health.specs.declared.expiry.Expiry.{Expiry}
-use Rattle.rb_health.specs.declared.health.ClientHealth.{ClientHealth}
+use Rattle.rb_text_report.specs.declared.expiry.Expiry.{Expiry}
+use Rattle.rb_text_report.specs.declared.health.ClientHealth.{ClientHealth}
 
 abbrev pub head : List ℕ
 head = codes "# HELP ibcplan_client_expires_timestamp_seconds When the newest consensus state that the client has stored expires, in seconds since 1970.\n# TYPE ibcplan_client_expires_timestamp_seconds gauge\n"

@@ -6,8 +6,8 @@ use Rattle.std.specs.Option.{option_map_or}
 use Rattle.std.specs.Fmt.{decimal}
 use Rattle.rb_moments.specs.Lengths.{length_text}
 use Rattle.rb_moments.specs.Moments.{instant_text}
-use Rattle.rb_health.specs.declared.expiry.Expiry.{Expiry}
-use Rattle.rb_health.specs.declared.health.ClientHealth.{ClientHealth}
+use Rattle.rb_text_report.specs.declared.expiry.Expiry.{Expiry}
+use Rattle.rb_text_report.specs.declared.health.ClientHealth.{ClientHealth}
 
 -- it doesn't expire in the window
 abbrev pub is_live : Expiry → Bool

@@ -1,7 +1,7 @@
 //! When a client expires.
 ghost use Rattle.std.specs.Prelude.{◌≡◌, nat_lt, IfOk};
 ghost use Rattle.rb_core.specs.Core.{state_in};
-ghost use Rattle.rb_health.specs.Health.{newest_expiry, expiry_in};
+ghost use Rattle.rb_text_report.specs.Health.{newest_expiry, expiry_in};
 
 use rb_base::Height;
 use rb_core::Core;

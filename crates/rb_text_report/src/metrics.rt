@@ -1,7 +1,7 @@
 //! Metrics in the text format of Prometheus. Identifiers have no character that a label escapes.
 ghost use Rattle.std.specs.Prelude.{◌≡◌, ◌++◌, [], slice_index_or, OnOk, IfOk, string_bytes};
 ghost use Rattle.std.specs.List.{flat_map};
-ghost use Rattle.rb_health.specs.Metrics.{head, name_text, label, value_text, gauge_text, client_text};
+ghost use Rattle.rb_text_report.specs.Metrics.{head, name_text, label, value_text, gauge_text, client_text};
 
 use crate::expiry::Expiry;
 use crate::health::ClientHealth;

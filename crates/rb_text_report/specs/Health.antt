@@ -7,8 +7,8 @@ use Rattle.rb_core_model.specs.Machine.{State, client_view}
 use Rattle.rb_plan_client.specs.Draft.{Job}
 use Rattle.rb_plan_client.specs.Task.{Task}
 use Rattle.rb_script_types.specs.declared.config.ClientConfig.{ClientConfig}
-use Rattle.rb_health.specs.declared.expiry.Expiry.{Expiry}
-use Rattle.rb_health.specs.declared.health.ClientHealth.{ClientHealth}
+use Rattle.rb_text_report.specs.declared.expiry.Expiry.{Expiry}
+use Rattle.rb_text_report.specs.declared.health.ClientHealth.{ClientHealth}
 
 -- when the record at a height expires, beside the window's end
 abbrev pub expiry_at : Task → ℕ → Record → Expiry

@@ -2,7 +2,7 @@
 ghost use Rattle.std.specs.Prelude.{◌≡◌, map, IfOk};
 ghost use Rattle.std.specs.List.{enumerate_from};
 ghost use Rattle.rb_core.specs.Core.{state_in};
-ghost use Rattle.rb_health.specs.Health.{health_in};
+ghost use Rattle.rb_text_report.specs.Health.{health_in};
 
 use crate::expiry::{Expiry, expiry_in};
 use rb_core::Core;

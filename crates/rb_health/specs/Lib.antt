@@ -1,3 +1,0 @@
-pub mod Health
-pub mod Metrics
-pub mod Lines
