@@ -58,12 +58,11 @@ def example_runs(program: str, made: pathlib.Path) -> tuple[int, int]:
 
 
 def library_runs(program: str, made: pathlib.Path) -> tuple[int, int]:
-    """The library in C, made of the object file that a build leaves beside its program, if that and the tools are there; Python calls it."""
-    parts, library = pathlib.Path(f"{program}.o"), made / "c"
-    if not parts.exists() or not all(map(shutil.which, ("gcc", "objcopy", "ld", "ar", "rt"))):
-        print(f"the library in C isn't tried: {parts} or a tool isn't there")
+    """The library in C, made of the object file that IBCPLAN_OBJECT names, if it names one; Python calls it."""
+    parts, library = os.environ.get("IBCPLAN_OBJECT"), made / "c"
+    if not parts:
         return 0, 0
-    status, output = ran([str(CLIENTS / "c" / "build"), str(parts), str(library)], TOP, made, program)
+    status, output = ran([str(CLIENTS / "c" / "build"), os.path.abspath(parts), str(library)], TOP, made, program)
     if status == 0:
         status, output = ran(["python3", "-B", str(CLIENTS / "c" / "try.py"), str(library / "libibcplan.so.1")], TOP, made, program)
     return 1, shown(f"the library in C: {status}", output) if status else 0
