@@ -5,4 +5,5 @@ pub mod Tallies
 pub mod Shares
 pub mod Events
 pub mod Scripts
+pub mod Reading
 pub mod Reasons

@@ -8,8 +8,9 @@ ghost use Rattle.rb_import_merge.specs.Errors.{IsToldIn, OfEach};
 ghost use Rattle.rb_import_merge.specs.Seen.{HoldsOfSeen};
 ghost use Rattle.rb_import_notices.specs.Whole.{AreNoticesOf};
 ghost use Rattle.rb_import.specs.Openings.{Opens, hold_verdicts, opening_of};
+ghost use Rattle.rb_import.specs.Reading.{IsTooMuch};
 ghost use Rattle.rb_import.specs.Reasons.{HasReasonOfScript, IsOfSizeOf, NamesLargest};
-ghost use Rattle.rb_import.specs.Scripts.{IsFitting, IsMadeOf};
+ghost use Rattle.rb_import.specs.Scripts.{IsFitting, IsMadeOf, script_in};
 ghost use Rattle.rb_import.specs.Texts.{heading};
 
 use crate::made::{MakeError, script_of_seen};
@@ -54,7 +55,7 @@ pub fn make<'a>(
     ensures little { IfOk result (λ made. little (script_view made.script).config (script_view made.script).turns ≡ Ok tt) }
     ensures reason { IfErr result (OfEach (HasReasonOfScript setup.entry.now signatures answers.entry.now)) }
     ensures told { IfErr result (OfEach (IsToldIn setup.entry.now)) }
-    ensures big { IfErr result (OfEach (λ e. IsTooBig e → HoldsOfSeen setup.entry.now signatures answers.entry.now (λ seen. NamesLargest setup.entry.now seen e))) }
+    ensures big { IfErr result (OfEach (λ e. IsTooBig e → HoldsOfSeen setup.entry.now signatures answers.entry.now (λ seen. NamesLargest setup.entry.now seen e × IsTooMuch (script_in setup.entry.now answers.entry.now seen)))) }
 {
     let seen = seen_in(alloc, setup, signatures, answers)?;
     made_of(alloc, setup, answers, &seen)
@@ -92,13 +93,14 @@ fn made_of<'a>(
     ensures form { IfOk result (λ made. IsReadScript (script_view made.script)) }
     ensures little { IfOk result (λ made. little (script_view made.script).config (script_view made.script).turns ≡ Ok tt) }
     ensures size { IfErr result (OfEach (IsOfSizeOf setup.entry.now seen.now)) }
+    ensures too_much { IfErr result (OfEach (λ _. IsTooMuch (script_in setup.entry.now answers.entry.now seen.now))) }
     ensures told { IfErr result (OfEach (IsToldIn setup.entry.now)) }
 {
     let notices = notices_of(alloc, setup, answers, seen)?;
     match script_of_seen(alloc, setup, answers, seen) {
         Ok(script) => Ok(Made { script, notices }),
         Err(MakeError::NoMemory) => Err(ImportErrors::NoMemory),
-        Err(_) => Err(too_big(alloc, setup, seen)),
+        Err(MakeError::TooBig) => Err(too_big(alloc, setup, seen)),
     }
 }
 

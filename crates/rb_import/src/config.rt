@@ -1,7 +1,8 @@
 //! What a script is set up with.
-ghost use Rattle.std.specs.Prelude.{◌≡◌, IfOk, IfSome, IsSomeAnd, map, slice_get, zip};
+ghost use Rattle.std.specs.Prelude.{◌≡◌, All, IfOk, IsErrOf, SomeIff, map, zip};
 ghost use Rattle.std.specs.List.{enumerate_from};
 ghost use Rattle.rb_script_types.specs.Config.{config_view};
+ghost use Rattle.rb_import.specs.Reading.{HasItsFirst, HasItsRange, HasOptions, HasRanges};
 ghost use Rattle.rb_import.specs.Scripts.{client_in, config_in, path_in};
 
 use crate::made::MakeError;
@@ -21,7 +22,8 @@ pub(crate) fn config_of(
     answers: &SavedAnswers,
     seen: &Seen<'_>,
 ) -> Result<Config, MakeError>
-    ensures { IfOk result (λ config. config_view config ≡ config_in setup.now answers.now seen.now) }
+    ensures config { IfOk result (λ config. config_view config ≡ config_in setup.now answers.now seen.now) }
+    ensures too_big { IsErrOf result MakeError.TooBig → ¬ HasRanges (config_in setup.now answers.now seen.now) }
 {
     let chains = Vec::from_slice(alloc, setup.chains.as_slice())?;
     let clients = clients_of(alloc, setup, seen)?;
@@ -36,11 +38,15 @@ pub(crate) fn config_of(
 }
 
 fn clients_of(alloc: Global, setup: &Setup, seen: &Seen<'_>) -> Result<Vec<ClientConfig>, MakeError>
-    ensures { IfOk result (λ clients. clients.items ≡ map client_in (zip setup.now.clients.items seen.now.clients.items)) }
+    ensures clients { IfOk result (λ clients. clients.items ≡ map client_in (zip setup.now.clients.items seen.now.clients.items)) }
+    ensures too_big { IsErrOf result MakeError.TooBig → ¬ All HasItsRange (map client_in (zip setup.now.clients.items seen.now.clients.items)) }
 {
     let mut clients = Vec::with_capacity(alloc, setup.clients.len())?;
     for (place, client) in setup.clients.iter().enumerate() {
-        match client_at(seen, place, client) {
+        let Some(it) = seen.clients.get(place) else {
+            break;
+        };
+        match client_of(client, it) {
             Some(client) => clients.push(client)?,
             None => return Err(MakeError::TooBig),
         }
@@ -48,16 +54,9 @@ fn clients_of(alloc: Global, setup: &Setup, seen: &Seen<'_>) -> Result<Vec<Clien
     Ok(clients)
 }
 
-/// The client at a place, by what was seen of it.
-fn client_at(seen: &Seen<'_>, place: usize, client: &ClientSetup) -> Option<ClientConfig>
-    ensures { IfSome result (λ config. IsSomeAnd (slice_get seen.now.clients.items place) (λ one. config ≡ client_in (client.now, one))) }
-{
-    client_of(client, seen.clients.get(place)?)
-}
-
 /// A client, which judges headers as the setup says, or else its state; none where a number is outside its range.
 fn client_of(client: &ClientSetup, seen: &SeenClient<'_>) -> Option<ClientConfig>
-    ensures { IfSome result (λ config. config ≡ client_in (client.now, seen.now)) }
+    ensures { SomeIff result (HasItsRange (client_in (client.now, seen.now))) (client_in (client.now, seen.now)) }
 {
     let options = options_of(seen)?;
     let usual = seen.period.nanoseconds() / 3;
@@ -75,7 +74,7 @@ fn client_of(client: &ClientSetup, seen: &SeenClient<'_>) -> Option<ClientConfig
 }
 
 fn options_of(seen: &SeenClient<'_>) -> Option<Options>
-    ensures { IfSome result (λ options. options ≡ record { period = seen.now.period; drift = seen.now.drift; trust = record { numerator = seen.now.trust.numerator; denominator = seen.now.trust.denominator }; votes = CarriedVotes.Cast; ties = Ties.Higher }) }
+    ensures { SomeIff result (HasOptions seen.now.drift seen.now.trust.numerator seen.now.trust.denominator) (record { period = seen.now.period; drift = seen.now.drift; trust = record { numerator = seen.now.trust.numerator; denominator = seen.now.trust.denominator }; votes = CarriedVotes.Cast; ties = Ties.Higher }) }
 {
     if seen.drift > i64::MAX as u64 {
         return None;
@@ -95,7 +94,8 @@ fn paths_of(
     setup: &Setup,
     answers: &SavedAnswers,
 ) -> Result<Vec<PathConfig>, MakeError>
-    ensures { IfOk result (λ paths. paths.items ≡ map (path_in answers.now) (enumerate_from 0 setup.now.paths.items)) }
+    ensures paths { IfOk result (λ paths. paths.items ≡ map (path_in answers.now) (enumerate_from 0 setup.now.paths.items)) }
+    ensures too_big { IsErrOf result MakeError.TooBig → ¬ All HasItsFirst (map (path_in answers.now) (enumerate_from 0 setup.now.paths.items)) }
 {
     let mut paths = Vec::with_capacity(alloc, setup.paths.len())?;
     for (place, path) in setup.paths.iter().enumerate() {
@@ -109,7 +109,7 @@ fn paths_of(
 
 /// The path at a place, with its first sequence; none where that is outside its range.
 fn path_of(answers: &SavedAnswers, place: usize, path: &PathSetup) -> Option<PathConfig>
-    ensures { IfSome result (λ config. config ≡ path_in answers.now (place, path.now)) }
+    ensures { SomeIff result (HasItsFirst (path_in answers.now (place, path.now))) (path_in answers.now (place, path.now)) }
 {
     let first = Sequence::new(first_of(path, answers_at(&answers.paths, place)))?;
     Some(PathConfig {

@@ -1,9 +1,10 @@
 //! The script of a setup and of what was seen.
-ghost use Rattle.std.specs.Prelude.{◌≡◌, ◌<◌, ◌++◌, IfOk, Ok, OnOk, length, map};
+ghost use Rattle.std.specs.Prelude.{◌≡◌, ◌<◌, ◌++◌, IfOk, IsErrOf, Ok, OnOk, length, map};
 ghost use Rattle.std.specs.List.{enumerate_from};
 ghost use Rattle.rb_script_types.specs.Script.{IsReadScript, script_view, turn_view};
 ghost use Rattle.rb_script_read.specs.Work.{little};
 ghost use Rattle.rb_import.specs.Events.{events_in};
+ghost use Rattle.rb_import.specs.Reading.{IsTooMuch};
 ghost use Rattle.rb_import.specs.Scripts.{script_in, turn_in, turn_with};
 
 use crate::chains::push_chains;
@@ -61,6 +62,7 @@ pub fn script_of_seen(
     ensures script { IfOk result (λ script. script_view script ≡ script_in setup.now answers.now seen.now) }
     ensures form { IfOk result (λ script. IsReadScript (script_view script)) }
     ensures little { IfOk result (λ script. little (script_view script).config (script_view script).turns ≡ Ok tt) }
+    ensures too_big { IsErrOf result MakeError.TooBig → IsTooMuch (script_in setup.now answers.now seen.now) }
 {
     let script = composed(alloc, setup, answers, seen)?;
     judge(alloc, &script)?;
@@ -71,6 +73,7 @@ pub fn script_of_seen(
 fn judge(alloc: Global, script: &Script) -> Result<(), MakeError>
     ensures form { OnOk result (IsReadScript (script_view script.now)) }
     ensures little { OnOk result (little (script_view script.now).config (script_view script.now).turns ≡ Ok tt) }
+    ensures too_big { IsErrOf result MakeError.TooBig → IsTooMuch (script_view script.now) }
 {
     if !has_room(script.turns.as_slice()) || !is_read_script(script) {
         return Err(MakeError::TooBig);
@@ -90,14 +93,15 @@ fn composed(
     answers: &SavedAnswers,
     seen: &Seen<'_>,
 ) -> Result<Script, MakeError>
-    ensures { IfOk result (λ script. script_view script ≡ script_in setup.now answers.now seen.now) }
+    ensures script { IfOk result (λ script. script_view script ≡ script_in setup.now answers.now seen.now) }
+    ensures too_big { IsErrOf result MakeError.TooBig → IsTooMuch (script_in setup.now answers.now seen.now) }
 {
     let config = config_of(alloc, setup, answers, seen)?;
     let turns = turns_of(alloc, setup, seen)?;
     Ok(Script { config, turns })
 }
 
-fn turns_of(alloc: Global, setup: &Setup, seen: &Seen<'_>) -> Result<Vec<Turn>, MakeError>
+fn turns_of(alloc: Global, setup: &Setup, seen: &Seen<'_>) -> Result<Vec<Turn>, AllocError>
     ensures { IfOk result (λ turns. map turn_view turns.items ≡ map (turn_in setup.now seen.now) (enumerate_from 0 setup.now.turns.items)) }
 {
     let mut turns = Vec::with_capacity(alloc, setup.turns.len())?;
@@ -115,7 +119,7 @@ fn turn_at(
     seen: &Seen<'_>,
     place: usize,
     turn: &TurnSetup,
-) -> Result<Turn, MakeError>
+) -> Result<Turn, AllocError>
     requires { place < length setup.now.turns.items }
     ensures { IfOk result (λ made. turn_view made ≡ turn_in setup.now seen.now (place, turn.now)) }
 {
@@ -127,7 +131,7 @@ fn turn_at(
     turn_with(alloc, turn, events)
 }
 
-fn turn_with(alloc: Global, turn: &TurnSetup, events: Vec<Observation>) -> Result<Turn, MakeError>
+fn turn_with(alloc: Global, turn: &TurnSetup, events: Vec<Observation>) -> Result<Turn, AllocError>
     ensures { IfOk result (λ made. turn_view made ≡ turn_with events.items turn.now) }
 {
     Ok(Turn {
@@ -142,7 +146,7 @@ fn turn_with(alloc: Global, turn: &TurnSetup, events: Vec<Observation>) -> Resul
 
 /// What was seen of each chain, each client and each path.
 #[tactic(auto, using(crate::proofs::Added::added), unfolding(crate::specs::Events::events_in))]
-fn events_of(alloc: Global, setup: &Setup, seen: &Seen<'_>) -> Result<Vec<Observation>, MakeError>
+fn events_of(alloc: Global, setup: &Setup, seen: &Seen<'_>) -> Result<Vec<Observation>, AllocError>
     ensures { IfOk result (λ events. events.items ≡ events_in setup.now seen.now) }
 {
     let mut events = Vec::new(alloc);

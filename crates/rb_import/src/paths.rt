@@ -1,14 +1,14 @@
 //! The events of paths: their packets, and that they were closed.
-ghost use Rattle.std.specs.Prelude.{◌≡◌, ◌++◌, IfSome, IfOk, OnOk, map, slice_get};
+ghost use Rattle.std.specs.Prelude.{◌≡◌, ◌++◌, OnOk, map, slice_get};
 ghost use Rattle.rb_import.specs.Events.{block_of, closing, events_of, packet_by, packet_in, path_at, path_events, paths_events, time_at, unless_zero, writer_of};
 
-use crate::made::MakeError;
 use rb_base::{Height, Moment};
 use rb_import_answers::{PacketEvent, PacketKind};
 use rb_import_merge::{Seen, SeenPacket, SeenPath};
 use rb_import_setup::Setup;
 use rb_scan::{Order, Sequence};
 use rb_script_types::{Block, BlockHeight, Observation, PathConfig};
+use std::alloc::AllocError;
 
 /// Adds the packets of each path, and that it was closed.
 #[tactic(auto, unfolding(crate::specs::Events::paths_events))]
@@ -16,7 +16,7 @@ pub(crate) fn push_paths(
     events: &mut Vec<Observation>,
     setup: &Setup,
     seen: &Seen<'_>,
-) -> Result<(), MakeError>
+) -> Result<(), AllocError>
     ensures { OnOk result (events.new.items ≡ events.old.items ++ paths_events setup.now seen.now) }
 {
     for (place, path) in setup.paths.iter().enumerate() {
@@ -30,7 +30,7 @@ fn push_path_at(
     seen: &Seen<'_>,
     place: usize,
     path: &PathConfig,
-) -> Result<(), MakeError>
+) -> Result<(), AllocError>
     ensures { OnOk result (events.new.items ≡ events.old.items ++ events_of seen.now place path.now (slice_get seen.now.paths.items place)) }
 {
     match seen.paths.get(place) {
@@ -46,7 +46,7 @@ fn push_path(
     place: usize,
     path: &PathConfig,
     it: &SeenPath<'_>,
-) -> Result<(), MakeError>
+) -> Result<(), AllocError>
     ensures { OnOk result (events.new.items ≡ events.old.items ++ path_events seen.now place path.now it.now) }
 {
     push_packets(events, seen, place, path, it.packets.as_slice())?;
@@ -59,75 +59,56 @@ fn push_packets(
     place: usize,
     path: &PathConfig,
     packets: &[SeenPacket<'_>],
-) -> Result<(), MakeError>
+) -> Result<(), AllocError>
     ensures { OnOk result (events.new.items ≡ events.old.items ++ map (packet_in seen.now place path.now) packets.now) }
 {
     for packet in packets {
-        match packet_in(seen, place, path, packet) {
-            Some(event) => events.push(event)?,
-            None => return Err(MakeError::TooBig),
-        }
+        events.push(packet_in(seen, place, path, packet))?;
     }
     Ok(())
 }
 
-/// The event of a packet; none where a number of it is outside its range.
+/// The event of a packet.
 fn packet_in(
     seen: &Seen<'_>,
     place: usize,
     path: &PathConfig,
     packet: &SeenPacket<'_>,
-) -> Option<Observation>
-    ensures { IfSome result (λ event. event ≡ packet_in seen.now place path.now packet.now) }
+) -> Observation
+    ensures { result ≡ packet_in seen.now place path.now packet.now }
 {
     let event = packet.event;
-    let sequence = Sequence::new(event.sequence)?;
-    let block = block_of(seen, path, event)?;
+    let sequence = sequence_of(event);
+    let block = block_of(seen, path, event);
     match event.kind {
-        PacketKind::Sent => sent(place, sequence, block, packet),
-        PacketKind::Received => Some(Observation::Received {
-            path: place,
-            sequence,
-            block: block.height,
-        }),
-        PacketKind::AckWritten => Some(Observation::AckWritten {
+        PacketKind::Sent => Observation::Sent {
             path: place,
             sequence,
             block,
-        }),
-        PacketKind::Cleared | PacketKind::TimedOut => Some(Observation::Cleared {
+            timeout_height: packet.expiry,
+            timeout_time: timeout_time(event.timeout_time),
+        },
+        PacketKind::Received => Observation::Received {
             path: place,
             sequence,
-        }),
+            block: block.height,
+        },
+        PacketKind::AckWritten => Observation::AckWritten {
+            path: place,
+            sequence,
+            block,
+        },
+        PacketKind::Cleared | PacketKind::TimedOut => Observation::Cleared {
+            path: place,
+            sequence,
+        },
     }
 }
 
-fn sent(
-    place: usize,
-    sequence: Sequence,
-    block: Block,
-    packet: &SeenPacket<'_>,
-) -> Option<Observation>
-    ensures { IfSome result (λ event. event ≡ Observation.Sent place sequence block (unless_zero packet.now.expiry) (unless_zero packet.now.event.now.timeout_time)) }
+fn sequence_of(event: &PacketEvent) -> Sequence
+    ensures { result ≡ event.now.sequence }
 {
-    Some(Observation::Sent {
-        path: place,
-        sequence,
-        block,
-        timeout_height: timeout_height(packet.expiry)?,
-        timeout_time: timeout_time(packet.event.timeout_time),
-    })
-}
-
-/// A height, and none for 0; `None` where it is outside its range.
-fn timeout_height(height: u64) -> Option<Option<Height>>
-    ensures { IfSome result (λ found. found ≡ unless_zero height) }
-{
-    if height == 0 {
-        return Some(None);
-    }
-    let height = Height::new(height)?;
-    Some(Some(height))
+    Sequence::new(event.sequence).unwrap()
 }
 
 /// The moment of so many nanoseconds, and none for 0.
@@ -141,17 +122,16 @@ fn timeout_time(nanoseconds: u64) -> Option<Moment>
     }
 }
 
-/// The block that an event of a path's packet stands in, and its time, where a header of it was seen; none where its
-/// height is outside its range.
-fn block_of(seen: &Seen<'_>, path: &PathConfig, event: &PacketEvent) -> Option<Block>
-    ensures { IfSome result (λ block. block ≡ block_of seen.now path.now event.now) }
+/// The block that an event of a path's packet stands in, and its time, where a header of it was seen.
+fn block_of(seen: &Seen<'_>, path: &PathConfig, event: &PacketEvent) -> Block
+    ensures { result ≡ block_of seen.now path.now event.now }
 {
-    let height = BlockHeight::new(event.block.get())?;
+    let height = BlockHeight::new(event.block.get()).unwrap();
     let time = match writer_of(path, event.kind) {
         Some(place) => time_at(seen, place, event.block),
         None => None,
     };
-    Some(Block { height, time })
+    Block { height, time }
 }
 
 /// The chain whose block an event stands in, where messages wait from its time on.
@@ -177,7 +157,7 @@ fn push_closing(
     place: usize,
     path: &PathConfig,
     timed_out: bool,
-) -> Result<(), MakeError>
+) -> Result<(), AllocError>
     ensures { OnOk result (events.new.items ≡ events.old.items ++ closing place path.now timed_out) }
 {
     match path.order {

@@ -1,5 +1,5 @@
 //! Whether a script is one that its reader could have given.
-ghost use Rattle.std.specs.Prelude.{◌≡◌, ◌≢◌, ◌+◌, ◌<◌, ◌≤◌, ℕ, IfSome, IsTrue, All, AllPairs, length, map, sum_by};
+ghost use Rattle.std.specs.Prelude.{◌≡◌, ◌≢◌, ◌↔◌, ◌-◌, ◌<◌, ◌≤◌, ℕ, IsTrue, SomeIff, All, AllPairs, length, map, sum_by};
 ghost use Rattle.rb_script_types.specs.Limits.{max_entries, max_turns};
 ghost use Rattle.rb_script_types.specs.Script.{IsReadObservation, IsReadScript, IsReadWindow, IsTurnOf, entry_count, script_view, turn_view};
 
@@ -34,7 +34,7 @@ impl Placed for Asked {
 
 /// Whether turns have no more windows of hosts, goals, events and settlements than are allowed.
 pub(crate) fn has_room(turns: &[Turn]) -> bool
-    ensures { IsTrue result → sum_by entry_count (map turn_view turns.now) ≤ max_entries }
+    ensures { IsTrue result ↔ sum_by entry_count (map turn_view turns.now) ≤ max_entries }
 {
     let mut room = MAX_ENTRIES;
     for turn in turns {
@@ -48,7 +48,7 @@ pub(crate) fn has_room(turns: &[Turn]) -> bool
 
 /// The room that a turn leaves, if there is enough.
 fn room_after(room: usize, turn: &Turn) -> Option<usize>
-    ensures { IfSome result (λ left. left + entry_count (turn_view turn.now) ≡ room) }
+    ensures { SomeIff result (entry_count (turn_view turn.now) ≤ room) (room - entry_count (turn_view turn.now)) }
 {
     room.checked_sub(turn.windows.len())?
         .checked_sub(turn.goals.len())?
@@ -59,21 +59,20 @@ fn room_after(room: usize, turn: &Turn) -> Option<usize>
 /// Whether a script that has no more events than are allowed is one that its reader could have given.
 pub(crate) fn is_read_script(script: &Script) -> bool
     requires { sum_by entry_count (script_view script.now).turns ≤ max_entries }
-    ensures { IsTrue result → IsReadScript (script_view script.now) }
+    ensures { IsTrue result ↔ IsReadScript (script_view script.now) }
 {
     let config = &script.config;
     is_config(config) && are_turns(config, script.turns.as_slice())
 }
 
 fn are_turns(config: &Config, turns: &[Turn]) -> bool
-    ensures few { IsTrue result → length turns.now ≤ max_turns }
-    ensures each { IsTrue result → All (IsTurnOf config.now) turns.now }
+    ensures { IsTrue result ↔ (length turns.now ≤ max_turns) × All (IsTurnOf config.now) turns.now }
 {
     turns.len() <= MAX_TURNS && turns.iter().all(|turn| is_turn_of(config, turn))
 }
 
 fn is_turn_of(config: &Config, turn: &Turn) -> bool
-    ensures { IsTrue result → IsTurnOf config.now turn.now }
+    ensures { IsTrue result ↔ IsTurnOf config.now turn.now }
 {
     let (chains, clients, paths) = (
         config.chains.len(),
@@ -90,25 +89,25 @@ fn is_turn_of(config: &Config, turn: &Turn) -> bool
 }
 
 fn are_windows(chains: usize, windows: &[HostWindow]) -> bool
-    ensures { IsTrue result → All (IsReadWindow chains) windows.now }
+    ensures { IsTrue result ↔ All (IsReadWindow chains) windows.now }
 {
     windows.iter().all(|given| is_window(chains, given))
 }
 
 fn is_window(chains: usize, given: &HostWindow) -> bool
-    ensures { IsTrue result → IsReadWindow chains given.now }
+    ensures { IsTrue result ↔ IsReadWindow chains given.now }
 {
     given.host < chains && given.window.from() <= given.window.until()
 }
 
 fn are_below(clients: usize, goals: &[Asked]) -> bool
-    ensures { IsTrue result → All (λ g. g.client < clients) goals.now }
+    ensures { IsTrue result ↔ All (λ g. g.client < clients) goals.now }
 {
     goals.iter().all(|goal| goal.client < clients)
 }
 
 fn are_settlements(clients: usize, settlements: &[Settlement]) -> bool
-    ensures { IsTrue result → All (λ s. s.client < clients) settlements.now }
+    ensures { IsTrue result ↔ All (λ s. s.client < clients) settlements.now }
 {
     settlements
         .iter()
@@ -116,7 +115,7 @@ fn are_settlements(clients: usize, settlements: &[Settlement]) -> bool
 }
 
 fn are_events(chains: usize, clients: usize, paths: usize, events: &[Observation]) -> bool
-    ensures { IsTrue result → All (IsReadObservation chains clients paths) events.now }
+    ensures { IsTrue result ↔ All (IsReadObservation chains clients paths) events.now }
 {
     events
         .iter()
@@ -124,7 +123,7 @@ fn are_events(chains: usize, clients: usize, paths: usize, events: &[Observation
 }
 
 fn is_event(chains: usize, clients: usize, paths: usize, event: &Observation) -> bool
-    ensures { IsTrue result → IsReadObservation chains clients paths event.now }
+    ensures { IsTrue result ↔ IsReadObservation chains clients paths event.now }
 {
     match event {
         Observation::SetSeen { chain, .. } | Observation::HeaderSeen { chain, .. } => {
@@ -141,7 +140,7 @@ fn is_event(chains: usize, clients: usize, paths: usize, event: &Observation) ->
 
 /// Whether no two of the items name the same place.
 fn all_differ<T: Placed>(items: &[T]) -> bool
-    ensures { IsTrue result → AllPairs (λ a b. T.place a ≢ T.place b) items.now }
+    ensures { IsTrue result ↔ AllPairs (λ a b. T.place a ≢ T.place b) items.now }
 {
     for (number, item) in items.iter().enumerate() {
         if !differs_from_all(item.place(), &items[..number]) {
@@ -153,7 +152,7 @@ fn all_differ<T: Placed>(items: &[T]) -> bool
 
 /// Whether a place is named by none of the items.
 fn differs_from_all<T: Placed>(place: usize, items: &[T]) -> bool
-    ensures { IsTrue result → All (λ other. T.place other ≢ place) items.now }
+    ensures { IsTrue result ↔ All (λ other. T.place other ≢ place) items.now }
 {
     items.iter().all(|other| other.place() != place)
 }
