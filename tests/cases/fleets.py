@@ -44,9 +44,10 @@ PATHS = {
     "cut-short": (written("cut-short/sent.json", '{"result": {"txs": ['), "refused CutShort at -"),
     "no-folder": (removed_folder("no-folder"), "device"),
     "counted": (edited("counted/received.json", put("result.total_count", "7")), "refused MissingTransactions at counted 7"),
+    "last-block": (edited("last-block/received.json", put("result.txs[0].height", "9223372036854775807")), "refused BadNumber at result.txs[0].height"),
 }
 MOST_BYTES = 16_777_216
-OF_FILES = ("ErrorPage", "FrozenClient", "UnsupportedClient", "NotJson", "Empty", "NodeError", "CutShort", "device")
+OF_FILES = ("ErrorPage", "FrozenClient", "UnsupportedClient", "NotJson", "Empty", "NodeError", "CutShort", "BadNumber", "device")
 
 
 def make(folder):

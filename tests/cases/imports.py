@@ -117,7 +117,7 @@ def busy_cases(top):
 # ---- spoiled answers
 
 
-BIG, LONG = "9223372036854775808", "9223372037s"
+BIG, HIGHEST, LONG = "9223372036854775808", "9223372036854775807", "9223372037s"
 # fields of a header that only its hash needs
 HASHES = ["last_commit_hash", "data_hash", "consensus_hash", "app_hash", "last_results_hash", "evidence_hash"]
 # by file the fields that are needed: where they stand, how a flaw names them (None: as they stand), and what is out of their range
@@ -214,6 +214,9 @@ DAMAGES = [
     (RECEIVED_FILE, gone(f"{PACKET}[6]"), f"MissingField at {TX}.packet_dst_port"),
     (RECEIVED_FILE, gone(f"{PACKET}[7]"), f"MissingField at {TX}.packet_dst_channel"),
     (RECEIVED_FILE, put(f"{PACKET}[3].value", BIG), f"BadNumber at {TX}.packet_sequence"),
+    # a packet has a sequence from 1 on, and stands in a block whose next height is a height, too
+    (RECEIVED_FILE, put(f"{PACKET}[3].value", "0"), f"BadNumber at {TX}.packet_sequence"),
+    (RECEIVED_FILE, put(f"{TX}.height", HIGHEST), f"BadNumber at {TX}.height"),
     (RECEIVED_FILE, put(f"{PACKET}[3].value", 2), f"MissingField at {TX}.packet_sequence"),
     (SENT_FILE, gone(f"{PACKET}[1]"), f"MissingField at {TX}.packet_timeout_height"),
     (SENT_FILE, gone(f"{PACKET}[2]"), f"MissingField at {TX}.packet_timeout_timestamp"),
@@ -321,7 +324,9 @@ CHANGES = [
           ("commitments", put("commitments[1].sequence", 4), "WrongType at commitments[1].sequence"), ("commitments", put("commitments[0].sequence", BIG), "BadNumber at commitments[0].sequence"),
           ("commitments", put("pagination", []), "WrongType at pagination"),
           ("acknowledgements", put("acknowledgements[1].sequence", "x"), "BadNumber at acknowledgements[1].sequence"),
-          ("unreceived", put("sequences", "3"), "WrongType at sequences"), ("unreceived", put("sequences[1]", 4), "BadNumber at sequences"), ("unreceived", put("sequences[1]", "-4"), "BadNumber at sequences"))),
+          ("unreceived", put("sequences", "3"), "WrongType at sequences"), ("unreceived", put("sequences[1]", 4), "BadNumber at sequences"), ("unreceived", put("sequences[1]", "-4"), "BadNumber at sequences"),
+          ("commitments", put("commitments[0].sequence", "0"), "BadNumber at commitments[0].sequence"), ("unreceived", put("sequences[1]", "0"), "BadNumber at sequences"),
+          ("acknowledgements", put("acknowledgements[1].sequence", "0"), "BadNumber at acknowledgements[1].sequence"))),
     # verdicts that don't fit, or are none
     (in_turn(judged((80, [0], [], 3)), moved(VERDICTS, "hub-on-zone/verdicts.json", copy=True)), "refused WrongFolder at hub-on-zone", 1, ["hub-on-zone/verdicts.json"]),
     (in_turn(judged((80, [0], [], 3)), moved(VERDICTS, "transfers/verdicts.json", copy=True)), "refused WrongFolder at transfers", 1, ["transfers/verdicts.json"]),
