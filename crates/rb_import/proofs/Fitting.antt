@@ -24,8 +24,9 @@ use Rattle.rb_import_merge.specs.Seen.{HoldsOfSeen, IsSeenIn}
 use Rattle.rb_import_merge.specs.declared.seen.Seen.{Seen}
 use Rattle.rb_import_notices.specs.Whole.{AreNoticesOf}
 use Rattle.rb_import.specs.Openings.{IsOpening, Opens, credit, hold_verdicts, opening_of, seen_commits, verifier_of, warning, words_of, words_on}
+use Rattle.rb_import.specs.Reading.{IsTooMuch}
 use Rattle.rb_import.specs.Reasons.{HasReasonOfScript, IsOfSizeOf, NamesLargest}
-use Rattle.rb_import.specs.Scripts.{BeginsAs, IsFitting, IsMadeOf}
+use Rattle.rb_import.specs.Scripts.{BeginsAs, IsFitting, IsMadeOf, script_in}
 use Rattle.rb_import.specs.Texts.{heading}
 use Rattle.rb_import.specs.declared.composing.Composed.{Composed}
 use Rattle.rb_import.specs.declared.composing.Made.{Made}
@@ -112,6 +113,19 @@ pub all_of_largest : {T : Type 0} (setup : Setup) (signatures : Signatures) (ans
 all_of_largest setup signatures answers seen (Ok t) is w = tt
 all_of_largest setup signatures answers seen (Err e) is w =
     of_each (IsOfSizeOf setup seen) (λ p. IsTooBig p → HoldsOfSeen setup signatures answers (λ s. NamesLargest setup s p)) e (λ p size big. (seen, is, size.1.1)) w
+
+-- which is too much, where it is made
+pub all_too_much : {T : Type 0} (setup : Setup) (signatures : Signatures) (answers : SavedAnswers) (seen : Seen) (r : Result T ImportErrors) → IsSeenIn setup signatures answers seen
+    → IfErr r (OfEach (IsOfSizeOf setup seen)) → IfErr r (OfEach (λ _. IsTooMuch (script_in setup answers seen)))
+    → IfErr r (OfEach (λ e. IsTooBig e → HoldsOfSeen setup signatures answers (λ s. NamesLargest setup s e × IsTooMuch (script_in setup answers s))))
+all_too_much setup signatures answers seen (Ok t) is size much = tt
+all_too_much setup signatures answers seen (Err (all.Refused r)) is size much = λ k d small big. (seen, is, ((size k d small).1.1, much k d small))
+all_too_much setup signatures answers seen (Err all.NoMemory) is size much = tt
+
+-- what holds, holds beside each problem
+pub of_all : (Holds : Type 0) (e : ImportErrors) → Holds → OfEach (λ _. Holds) e
+of_all Holds (all.Refused r) holds = λ k d small. holds
+of_all Holds all.NoMemory holds = tt
 
 -- a text that the reader reads as the script of what was seen, behind the opening line and the heading
 pub fits : (setup : Setup) (answers : SavedAnswers) (seen : Seen) (text : List ℕ) (script : CodeScript Global) → IsMadeOf setup answers seen script

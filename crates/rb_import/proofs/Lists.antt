@@ -1,7 +1,7 @@
--- Two lists side by side, from a place on; pairs of elements of a list, one after another; and an element that isn't there.
-use Rattle.std.proofs.Common.{◌≡◌, ℕ, ◌+◌, ◌<◌, ◌≤◌, List, [], ◌∷◌, ◌++◌, map, take, drop, length, get_or, zip, slice_get, Option, Some, None, IsSomeAnd, All, AllPairs, sym, ap, ◌∙◌, refl}
-use Rattle.std.proofs.lemmas.List.{append-nil, append_assoc, drop_more, take_more}
-use Rattle.std.proofs.lemmas.List.Quantifiers.{all_pairs_push}
+-- Two lists side by side, from a place on; an element that isn't there; and one that hasn't what all are to have.
+use Rattle.std.proofs.Common.{◌≡◌, ℕ, ◌+◌, ◌<◌, ◌≤◌, List, [], ◌∷◌, ◌++◌, map, drop, length, get_or, zip, slice_get, Option, Some, None, All, subst, sym, ap, ◌∙◌, refl}
+use Rattle.std.proofs.lemmas.List.{append-nil, append_assoc, drop_more}
+use Rattle.std.proofs.lemmas.List.Elements.{All-head, All-tail}
 use Rattle.std.proofs.lemmas.Option.{get_or_from_slice_get, slice_get_past, slice_get_within}
 
 pub zip_more : {A B : Type 0} (xs : List A) (ys : List B) (i : ℕ) (x : A) (y : B) → i < length xs → x ≡ get_or xs i x → slice_get ys i ≡ Some y
@@ -11,24 +11,34 @@ zip_more xs ys i x y small is found =
     let right : drop i ys ≡ y ∷ drop (i + 1) ys = drop_more ys i y (slice_get_within ys i y found) ∙ ap (λ a. a ∷ drop (i + 1) ys) (get_or_from_slice_get ys i y y found) in
     rw (left, right) refl
 
--- one more element
-pub pairs_more : {X : Type 0} (R : X → X → Type 0) (xs : List X) (n : ℕ) (x : X) → n < length xs → x ≡ get_or xs n x
-    → AllPairs R (take n xs) → All (λ y. R y x) (take n xs) → AllPairs R (take (n + 1) xs)
-pairs_more R xs n x within e kept new = rw (take_more xs n x within, sym e) (all_pairs_push R (take n xs) x kept new)
-
 -- an element that isn't there adds nothing
 pub nothing_at : {X A : Type 0} (part : Option X → List A) (xs : List X) (i : ℕ) (old : List A) → part None ≡ [] → length xs ≤ i → old ≡ old ++ part (slice_get xs i)
 nothing_at part xs i old none past = sym (ap (λ o. old ++ part o) (slice_get_past xs i past) ∙ ap (λ l. old ++ l) none ∙ append-nil old)
 
--- what is made of one more element and of the one beside it
-pub zipped_on : {A B C : Type 0} (f : A × B → C) (xs : List A) (ys : List B) (i : ℕ) (x : A) (done after all : List C) (c : C) → i < length xs → x ≡ get_or xs i x
-    → IsSomeAnd (slice_get ys i) (λ y. c ≡ f (x, y)) → after ≡ done ++ c ∷ [] → done ++ map f (zip (drop i xs) (drop i ys)) ≡ all
-    → after ++ map f (zip (drop (i + 1) xs) (drop (i + 1) ys)) ≡ all
-zipped_on {A} {B} {C} f xs ys i x done after all c small is made more was = beside (slice_get ys i) refl made where
+module _ {A B C : Type 0} (f : A × B → C) (xs : List A) (ys : List B) (i : ℕ) (x : A) (y : B) (done all : List C) where
   rest : List C
   rest = map f (zip (drop (i + 1) xs) (drop (i + 1) ys))
 
-  beside : (o : Option B) → slice_get ys i ≡ o → IsSomeAnd o (λ y. c ≡ f (x, y)) → after ++ rest ≡ all
-  beside None found made = absurd made
-  beside (Some y) found made =
-      ap (λ l. l ++ rest) more ∙ append_assoc done (c ∷ []) rest ∙ ap (λ e. done ++ e ∷ rest) made ∙ ap (λ l. done ++ map f l) (sym (zip_more xs ys i x y small is found)) ∙ was
+  -- what is made of two elements side by side stands behind what was made of those before them
+  pub zipped_at : i < length xs → x ≡ get_or xs i x → slice_get ys i ≡ Some y → done ++ map f (zip (drop i xs) (drop i ys)) ≡ all → done ++ f (x, y) ∷ rest ≡ all
+  zipped_at small is found was = ap (λ l. done ++ map f l) (sym (zip_more xs ys i x y small is found)) ∙ was
+
+  -- with it
+  pub zipped_on : (after : List C) → i < length xs → x ≡ get_or xs i x → slice_get ys i ≡ Some y → after ≡ done ++ f (x, y) ∷ []
+      → done ++ map f (zip (drop i xs) (drop i ys)) ≡ all → after ++ rest ≡ all
+  zipped_on after small is found more was = ap (λ l. l ++ rest) more ∙ append_assoc done (f (x, y) ∷ []) rest ∙ zipped_at small is found was
+
+-- beside no element nothing is made
+pub zipped_end : {A B C : Type 0} (f : A × B → C) (xs : List A) (ys : List B) (i : ℕ) (done all : List C) → length ys ≤ i → done ++ map f (zip (drop i xs) (drop i ys)) ≡ all → done ≡ all
+zipped_end f xs ys i done all past was = sym (append-nil done) ∙ ap (λ l. done ++ map f l) (sym (nothing (drop i xs) (drop i ys) (drop_past ys i past))) ∙ was where
+  nothing : {A B : Type 0} (as : List A) (bs : List B) → bs ≡ [] → zip as bs ≡ []
+  nothing [] bs none = refl
+  nothing (a ∷ as) bs none = rw none refl
+
+-- all have what each has that is made
+one_in : {C : Type 0} (P : C → Type 0) (done rest : List C) (c : C) → All P (done ++ c ∷ rest) → P c
+one_in P [] rest c each = All-head P c rest each
+one_in P (x ∷ done) rest c each = one_in P done rest c (All-tail P x (done ++ c ∷ rest) each)
+
+pub one_out : {C : Type 0} (P : C → Type 0) (done rest all : List C) (c : C) → done ++ c ∷ rest ≡ all → ¬ P c → ¬ All P all
+one_out P done rest all c is out each = out (one_in P done rest c (subst (All P) (sym is) each))
