@@ -1,6 +1,7 @@
--- Two lists side by side, from a place on; an element that isn't there; and one that hasn't what all are to have.
-use Rattle.std.proofs.Common.{◌≡◌, ℕ, ◌+◌, ◌<◌, ◌≤◌, List, [], ◌∷◌, ◌++◌, map, drop, length, get_or, zip, slice_get, Option, Some, None, All, subst, sym, ap, ◌∙◌, refl}
-use Rattle.std.proofs.lemmas.List.{append-nil, append_assoc, drop_more}
+-- Two lists side by side, from a place on; pairs of elements of a list, one after another; an element that isn't there; and one that hasn't what all are to have.
+use Rattle.std.proofs.Common.{◌≡◌, ℕ, ◌+◌, ◌<◌, ◌≤◌, List, [], ◌∷◌, ◌++◌, map, take, drop, length, get_or, zip, slice_get, Option, Some, None, All, AllPairs, subst, sym, ap, ◌∙◌, refl, arith}
+use Rattle.std.proofs.lemmas.List.{append-nil, append_assoc, drop_more, take_more, length-take-le, get_or-take, get_or_default}
+use Rattle.std.proofs.lemmas.List.Quantifiers.{all_pairs_push}
 use Rattle.std.proofs.lemmas.List.Elements.{All-head, All-tail}
 use Rattle.std.proofs.lemmas.Option.{get_or_from_slice_get, slice_get_past, slice_get_within}
 
@@ -10,6 +11,18 @@ zip_more xs ys i x y small is found =
     let left : drop i xs ≡ x ∷ drop (i + 1) xs = drop_more xs i x small ∙ ap (λ a. a ∷ drop (i + 1) xs) (sym is) in
     let right : drop i ys ≡ y ∷ drop (i + 1) ys = drop_more ys i y (slice_get_within ys i y found) ∙ ap (λ a. a ∷ drop (i + 1) ys) (get_or_from_slice_get ys i y y found) in
     rw (left, right) refl
+
+module _ {X : Type 0} (R : X → X → Type 0) (xs : List X) (n : ℕ) (x : X) where
+  -- one more element
+  pub pairs_more : n < length xs → x ≡ get_or xs n x → AllPairs R (take n xs) → All (λ y. R y x) (take n xs) → AllPairs R (take (n + 1) xs)
+  pairs_more within e kept new = rw (take_more xs n x within, sym e) (all_pairs_push R (take n xs) x kept new)
+
+  -- each element before it
+  pub pairs_before : n < length xs → x ≡ get_or xs n x → AllPairs R xs → All (λ y. R y x) (take n xs)
+  pairs_before within e kept k d lt =
+      let long = length-take-le n xs (omega (arith, within)) in
+      let below : k < n = omega (arith, lt, long) in
+      rw (get_or-take n xs k d below) (subst (R (get_or xs k d)) (get_or_default xs n d x within ∙ sym e) (kept k n d below within))
 
 -- an element that isn't there adds nothing
 pub nothing_at : {X A : Type 0} (part : Option X → List A) (xs : List X) (i : ℕ) (old : List A) → part None ≡ [] → length xs ≤ i → old ≡ old ++ part (slice_get xs i)

@@ -1,7 +1,7 @@
 use Rattle.std.proofs.Common.{◌≢◌, All, AllPairs, take, subst, sym, refl, rules, arith}
 use Rattle.std.proofs.lemmas.Bool.{false≢true}
 use Rattle.std.proofs.lemmas.List.{take_all}
-use Rattle.rb_script_types.proofs.Pairs.{pairs_more, pairs_before}
+use Rattle.rb_import.proofs.Lists.{pairs_before, pairs_more}
 use Rattle.rb_import.proofs.read.all_differ.Goals as goal
 
 pub loop-number-preserved : goal.loop-number-preserved
