@@ -1,6 +1,6 @@
 -- Two lists side by side, from a place on; pairs of elements of a list, one after another; an element that isn't there; and one that hasn't what all are to have.
 use Rattle.std.proofs.Common.{◌≡◌, ℕ, ◌+◌, ◌<◌, ◌≤◌, List, [], ◌∷◌, ◌++◌, map, take, drop, length, get_or, zip, slice_get, Option, Some, None, All, AllPairs, subst, sym, ap, ◌∙◌, refl, arith}
-use Rattle.std.proofs.lemmas.List.{append-nil, append_assoc, drop_more, take_more, length-take-le, get_or-take, get_or_default}
+use Rattle.std.proofs.lemmas.List.{append-nil, append_assoc, drop_all, drop_more, take_more, length-take-le, get_or-take, get_or_default}
 use Rattle.std.proofs.lemmas.List.Quantifiers.{all_pairs_push}
 use Rattle.std.proofs.lemmas.List.Elements.{All-head, All-tail}
 use Rattle.std.proofs.lemmas.Option.{get_or_from_slice_get, slice_get_past, slice_get_within}
@@ -43,10 +43,10 @@ module _ {A B C : Type 0} (f : A × B → C) (xs : List A) (ys : List B) (i : �
 
 -- beside no element nothing is made
 pub zipped_end : {A B C : Type 0} (f : A × B → C) (xs : List A) (ys : List B) (i : ℕ) (done all : List C) → length ys ≤ i → done ++ map f (zip (drop i xs) (drop i ys)) ≡ all → done ≡ all
-zipped_end f xs ys i done all past was = sym (append-nil done) ∙ ap (λ l. done ++ map f l) (sym (nothing (drop i xs) (drop i ys) (drop_past ys i past))) ∙ was where
-  nothing : {A B : Type 0} (as : List A) (bs : List B) → bs ≡ [] → zip as bs ≡ []
+zipped_end f xs ys i done all past was = sym (append-nil done) ∙ ap (λ l. done ++ map f l) (sym (nothing (drop i xs) (drop i ys) (drop_all i ys past))) ∙ was where
+  nothing : {A B : Type 0} (as : List A) (bs : List B) → bs ≡ [] → zip ws bs ≡ []
   nothing [] bs none = refl
-  nothing (a ∷ as) bs none = rw none refl
+  nothing (a ∷ ws) bs none = rw none refl
 
 -- all have what each has that is made
 one_in : {C : Type 0} (P : C → Type 0) (done rest : List C) (c : C) → All P (done ++ c ∷ rest) → P c
