@@ -29,7 +29,7 @@ pub nothing_at : {X A : Type 0} (part : Option X → List A) (xs : List X) (i : 
 nothing_at part xs i old none past = sym (ap (λ o. old ++ part o) (slice_get_past xs i past) ∙ ap (λ l. old ++ l) none ∙ append-nil old)
 
 module _ {A B C : Type 0} (f : A × B → C) (xs : List A) (ys : List B) (i : ℕ) (x : A) (y : B) (done all : List C) where
-  rest : List C
+  abbrev pub rest : List C
   rest = map f (zip (drop (i + 1) xs) (drop (i + 1) ys))
 
   -- what is made of two elements side by side stands behind what was made of those before them
@@ -44,7 +44,7 @@ module _ {A B C : Type 0} (f : A × B → C) (xs : List A) (ys : List B) (i : �
 -- beside no element nothing is made
 pub zipped_end : {A B C : Type 0} (f : A × B → C) (xs : List A) (ys : List B) (i : ℕ) (done all : List C) → length ys ≤ i → done ++ map f (zip (drop i xs) (drop i ys)) ≡ all → done ≡ all
 zipped_end f xs ys i done all past was = sym (append-nil done) ∙ ap (λ l. done ++ map f l) (sym (nothing (drop i xs) (drop i ys) (drop_all i ys past))) ∙ was where
-  nothing : {A B : Type 0} (as : List A) (bs : List B) → bs ≡ [] → zip ws bs ≡ []
+  nothing : {A B : Type 0} (ws : List A) (bs : List B) → bs ≡ [] → zip ws bs ≡ []
   nothing [] bs none = refl
   nothing (a ∷ ws) bs none = rw none refl
 

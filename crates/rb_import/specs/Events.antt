@@ -1,5 +1,5 @@
 -- The events of a script: of each chain its sets and headers, of each client its consensus states, of each path its packets.
-use Rattle.std.specs.Prelude.{ℕ, ◌==◌, Bool, true, false, ◌&&◌, if◌then◌else◌, List, [], ◌∷◌, ◌++◌, map, reverse, Option, Some, None, option_map, option_to_list, slice_get, Vec}
+use Rattle.std.specs.Prelude.{ℕ, ◌^◌, ◌==◌, nat_lt, Bool, true, false, ◌&&◌, if◌then◌else◌, List, [], ◌∷◌, ◌++◌, map, reverse, Option, Some, None, option_map, option_to_list, slice_get, Vec}
 use Rattle.std.specs.Global.{Global as GlobalAllocator}
 use Rattle.std.specs.declared.alloc.Global.{Global}
 use Rattle.std.specs.List.{enumerate_from, flat_map}
@@ -117,13 +117,17 @@ time_at seen place height = option_and_then (λ (c : SeenChain). block_time (c.c
 abbrev pub block_of : Seen → PathConfig → PacketEvent → Block
 block_of seen path e = record { height = e.block; time = option_and_then (λ place. time_at seen place e.block) (writer_of path e.kind) }
 
+-- a height, and none for 0
+abbrev pub height_of : ℕ → Option ℕ
+height_of n = if nat_lt 0 n && nat_lt n (2 ^ 63) then Some n else None
+
 -- 0 is none (ICS 4)
 abbrev pub unless_zero : ℕ → Option ℕ
 unless_zero n = if n == 0 then None else Some n
 
 -- a packet whose timeout came is cleared, as one whose acknowledgement came is (ICS 4)
 abbrev pub packet_by : PacketKind → ℕ → Block → SeenPacket → Observation Global
-packet_by kinds.Sent path block p = Sent path p.event.now.sequence block p.expiry (unless_zero p.event.now.timeout_time)
+packet_by kinds.Sent path block p = Sent path p.event.now.sequence block (height_of p.expiry) (unless_zero p.event.now.timeout_time)
 packet_by kinds.Received path block p = Received path p.event.now.sequence block.height
 packet_by kinds.AckWritten path block p = AckWritten path p.event.now.sequence block
 packet_by kinds.Cleared path block p = Cleared path p.event.now.sequence

@@ -1,6 +1,6 @@
 //! The events of paths: their packets, and that they were closed.
 ghost use Rattle.std.specs.Prelude.{◌≡◌, ◌++◌, OnOk, map, slice_get};
-ghost use Rattle.rb_import.specs.Events.{block_of, closing, events_of, packet_by, packet_in, path_at, path_events, paths_events, time_at, unless_zero, writer_of};
+ghost use Rattle.rb_import.specs.Events.{block_of, closing, events_of, height_of, packet_by, packet_in, path_at, path_events, paths_events, time_at, unless_zero, writer_of};
 
 use rb_base::{Height, Moment};
 use rb_import_answers::{PacketEvent, PacketKind};
@@ -85,7 +85,7 @@ fn packet_in(
             path: place,
             sequence,
             block,
-            timeout_height: packet.expiry,
+            timeout_height: height_of(packet.expiry),
             timeout_time: timeout_time(event.timeout_time),
         },
         PacketKind::Received => Observation::Received {
@@ -109,6 +109,17 @@ fn sequence_of(event: &PacketEvent) -> Sequence
     ensures { result ≡ event.now.sequence }
 {
     Sequence::new(event.sequence).unwrap()
+}
+
+/// A height, and none for 0.
+fn height_of(height: u64) -> Option<Height>
+    ensures { result ≡ height_of height }
+{
+    if 0 < height && height <= Height::MAX {
+        Some(Height::new(height).unwrap())
+    } else {
+        None
+    }
 }
 
 /// The moment of so many nanoseconds, and none for 0.

@@ -176,13 +176,13 @@ HaveEvents setup saved packets = HaveEventsOf (wanted_of setup saved) packets
 abbrev pub within_heights : ℕ → ℕ
 within_heights n = if nat_lt n 1 then 1 else if nat_lt n (2 ^ 63) then n else 2 ^ 63 - 1
 
--- the height of a chain of this revision from which on a packet with this timeout isn't received any more (ICS 2: a height of a
+-- the height of a chain of this revision from which on a packet with this timeout isn't received any more; 0 is none (ICS 2: a height of a
 -- later revision is above all heights of an earlier one; 0-0 is none; CometBFT's heights are from 1 to 2^63 - 1)
-abbrev pub expiry_at : ℕ → RevisionHeight → Option ℕ
+abbrev pub expiry_at : ℕ → RevisionHeight → ℕ
 expiry_at revision timeout =
-    if (timeout.revision == 0 && timeout.height == 0) || nat_lt revision timeout.revision then None
-    else if nat_lt timeout.revision revision then Some 1
-    else Some (within_heights timeout.height)
+    if (timeout.revision == 0 && timeout.height == 0) || nat_lt revision timeout.revision then 0
+    else if nat_lt timeout.revision revision then 1
+    else within_heights timeout.height
 
 abbrev pub ExpiresAt : ℕ → SeenPacket → Type 0
 ExpiresAt revision p = p.expiry ≡ expiry_at revision p.event.now.timeout_height

@@ -21,7 +21,7 @@ pub use counterparties::{Counterparties, several_counterparties};
 pub use errors::{ImportErrors, Refusals};
 pub use kept::KeptSets;
 pub use left_out::{LeftOutPacket, PacketLack};
-pub use packets::{Searches, SeenPacket, searches_of};
+pub use packets::{Searches, SeenPacket, expiry_at, searches_of};
 pub use path::{SeenPath, seen_path};
 pub use pending::{first_of, is_pending};
 pub use seen::{Seen, answers_at, seen_in};

@@ -24,12 +24,12 @@ use rb_import_setup::PathSetup;
 use std::alloc::{AllocError, Global};
 
 /// An event of a packet, its file, and the height of the destination's chain from which on the packet isn't
-/// received any more.
+/// received any more (0: none).
 #[derive(Clone, Copy)]
 pub struct SeenPacket<'a> {
     pub file: &'a str,
     pub event: &'a PacketEvent,
-    pub expiry: Option<Height>,
+    pub expiry: u64,
 }
 
 /// The height of the first block (CometBFT).
@@ -123,16 +123,17 @@ pub fn by_block<'a>(packets: Vec<SeenPacket<'a>>) -> Result<Vec<SeenPacket<'a>>,
     Ok(sorted)
 }
 
-/// The height of a chain of this revision from which on a packet with this timeout isn't received any more.
-fn expiry_at(revision: u64, timeout: RevisionHeight) -> Option<Height>
+/// The height of a chain of this revision from which on a packet with this timeout isn't received any more;
+/// 0 is none.
+pub fn expiry_at(revision: u64, timeout: RevisionHeight) -> u64
     ensures { result ≡ expiry_at revision timeout }
 {
     if timeout.revision == 0 && timeout.height == 0 || revision < timeout.revision {
-        None
+        0
     } else if timeout.revision < revision {
-        Height::new(FIRST_HEIGHT)
+        FIRST_HEIGHT
     } else {
-        Height::new(within_heights(timeout.height))
+        within_heights(timeout.height)
     }
 }
 
