@@ -1,5 +1,6 @@
 -- Two lists side by side, from a place on; pairs of elements of a list, one after another; an element that isn't there; and one that hasn't what all are to have.
 use Rattle.std.proofs.Common.{◌≡◌, ℕ, ◌+◌, ◌<◌, ◌≤◌, List, [], ◌∷◌, ◌++◌, map, take, drop, length, get_or, zip, slice_get, Option, Some, None, All, AllPairs, subst, sym, ap, ◌∙◌, refl, arith}
+use Rattle.std.specs.List.{enumerate_from}
 use Rattle.std.proofs.lemmas.List.{append-nil, append_assoc, drop_all, drop_more, take_more, length-take-le, get_or-take, get_or_default}
 use Rattle.std.proofs.lemmas.List.Quantifiers.{all_pairs_push}
 use Rattle.std.proofs.lemmas.List.Elements.{All-head, All-tail}
@@ -55,3 +56,10 @@ one_in P (x ∷ done) rest c each = one_in P done rest c (All-tail P x (done ++ 
 
 pub one_out : {C : Type 0} (P : C → Type 0) (done rest all : List C) (c : C) → done ++ c ∷ rest ≡ all → ¬ P c → ¬ All P all
 one_out P done rest all c is out each = out (one_in P done rest c (subst (All P) (sym is) each))
+
+-- so it is with one that is made of an element and its place
+pub numbered_out : {A C : Type 0} (P : C → Type 0) (f : ℕ × A → C) (xs : List A) (i : ℕ) (x : A) (done all : List C) → i < length xs → x ≡ get_or xs i x
+    → done ++ map f (enumerate_from i (drop i xs)) ≡ all → ¬ P (f (i, x)) → ¬ All P all
+numbered_out P f xs i x done all small is was out =
+    let here : drop i xs ≡ x ∷ drop (i + 1) xs = drop_more xs i x small ∙ ap (λ a. a ∷ drop (i + 1) xs) (sym is) in
+    one_out P done _ all (f (i, x)) (ap (λ l. done ++ map f (enumerate_from i l)) (sym here) ∙ was) out

@@ -1,4 +1,4 @@
-use Rattle.std.proofs.Common.{◌≡◌, ◌++◌, drop, map}
+use Rattle.std.proofs.Common.{◌≡◌, ◌++◌, drop, map, option_map}
 use Rattle.std.specs.List.{enumerate_from}
 use Rattle.rb_import.specs.Events.{vote_at}
 use Rattle.rb_import.proofs.chains.votes_of.Given as goal
