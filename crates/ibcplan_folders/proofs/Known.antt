@@ -5,7 +5,8 @@ use Rattle.std.specs.Global.{Global}
 use Rattle.std.specs.List.{AllZip, enumerate_from}
 use Rattle.rb_messages.proofs.Zipped.{placed_all, placed_more, zipped_all, zipped_more}
 use Rattle.sha2.specs.Sha256.{sha256}
-use Rattle.rb_import_answers.specs.Answers.{Told, answer_view}
+use Rattle.rb_import_answers.specs.Answers.{Told, answer_view, commit, judging, other, packets, stored, transactions, validators, verified}
+use Rattle.rb_import_check.specs.Saved.{is_commit}
 use Rattle.rb_import_check.specs.declared.saved.Saved.{Saved}
 use Rattle.ibcplan_folders.specs.Files.{TellsIn}
 use Rattle.ibcplan_folders.specs.Folders.{AnswerFile, IsAnswerIn, OfKnown, content, kept, names_in}
@@ -59,9 +60,21 @@ pub known_places : {A B : Type 0} (known : Option (List AnswerFile)) (R : List A
 known_places None R xs i ys le all = tt
 known_places (Some files) R xs i ys le all = placed_all (R files) xs i ys le all
 
+-- a commit without its votes is one, and no other answer
+kept_commit : (votes : Votes) (t : Told) → is_commit (kept votes t) ≡ is_commit t
+kept_commit Kept t = refl
+kept_commit LeftOut (commit s) = refl
+kept_commit LeftOut (validators p) = refl
+kept_commit LeftOut (judging s) = refl
+kept_commit LeftOut (stored s) = refl
+kept_commit LeftOut (transactions s) = refl
+kept_commit LeftOut (packets p) = refl
+kept_commit LeftOut (verified v) = refl
+kept_commit LeftOut (other q) = refl
+
 -- an answer, by what is kept of it
 pub answer_of : (known : Option (List AnswerFile)) (votes : Votes) (since : ℕ) (folder name bytes read : List ℕ) (told_so : Told) (saved : Saved) → read ≡ bytes
-    → OfKnown known (λ files. content folder name files ≡ Some bytes) → TellsIn name since read told_so → answer_view saved.answer ≡ kept votes told_so → saved.digest ≡ sha256 read
+    → OfKnown known (λ files. content folder name files ≡ Some bytes) → TellsIn name since read told_so → answer_view saved.answer ≡ kept votes told_so → (is_commit told_so ≡ true → saved.digest ≡ sha256 read)
     → OfKnown known (λ files. IsAnswerIn votes since folder files name saved)
 answer_of None votes since folder name bytes read told_so saved same at tells answer digest = tt
 answer_of (Some files) votes since folder name bytes read told_so saved same at tells answer digest = record {
@@ -70,7 +83,7 @@ answer_of (Some files) votes since folder name bytes read told_so saved same at 
   is_there = at ∙ ap (λ bs. Some bs) (sym same);
   tells = tells;
   answer = answer;
-  digest = digest;
+  digest = λ is. digest (sym (kept_commit votes told_so) ∙ ap is_commit (sym answer) ∙ is);
 }
 
 -- what is needed is as it is asked for

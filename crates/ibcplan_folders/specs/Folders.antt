@@ -1,9 +1,10 @@
 -- The answers of nodes, as files in folders.
-use Rattle.std.specs.Prelude.{◌≡◌, ℕ, ◌&&◌, List, filter, find, map, Option, IfSome, Some, option_map}
+use Rattle.std.specs.Prelude.{◌≡◌, ℕ, ◌&&◌, true, List, filter, find, map, Option, IfSome, Some, option_map}
 use Rattle.std.specs.List.{AllZip}
 use Rattle.std.specs.Str.{bytes_eq}
 use Rattle.sha2.specs.Sha256.{sha256}
 use Rattle.rb_import_answers.specs.Answers.{Told, answer_view, without_votes}
+use Rattle.rb_import_check.specs.Saved.{is_commit}
 use Rattle.rb_import_check.specs.declared.saved.Saved.{Saved}
 use Rattle.ibcplan_folders.specs.Files.{TellsIn}
 use Rattle.ibcplan_folders.specs.declared.importing.Votes.{Votes}
@@ -39,7 +40,7 @@ pub record IsAnswerIn (votes : Votes) (since : ℕ) (folder : List ℕ) (files :
   pub is_there : content folder name files ≡ Some bytes
   pub tells : TellsIn name since bytes told_so
   pub answer : answer_view saved.answer ≡ kept votes told_so
-  pub digest : saved.digest ≡ sha256 bytes
+  pub digest : is_commit (answer_view saved.answer) ≡ true → saved.digest ≡ sha256 bytes
 
 -- the answers are what the folder's files tell, one each and in their order
 abbrev pub AreAnswersIn : Votes → ℕ → List ℕ → List AnswerFile → List Saved → Type 0

@@ -5,6 +5,7 @@ ghost use Rattle.std.specs.List.{AllZip, enumerate_from};
 ghost use Rattle.sha2.specs.Sha256.{sha256};
 ghost use Rattle.rb_import_answers.specs.Answers.{answer_view, told_in, verdicts_file, without_votes};
 ghost use Rattle.rb_import_answers.specs.Revisions.{IsRevision};
+ghost use Rattle.rb_import_check.specs.Saved.{is_commit};
 ghost use Rattle.rb_script_types.specs.Script.{IsReadScript, script_view};
 ghost use Rattle.rb_script_read.specs.Work.{little};
 ghost use Rattle.rb_import.specs.Openings.{Opens, hold_verdicts};
@@ -638,7 +639,7 @@ fn saved_of<'a>(
     bytes: &[u8],
     since: u64,
 ) -> Result<Saved, ProgramError<'a>>
-    ensures digest { IfOk result (λ saved. saved.digest ≡ sha256 bytes.now) }
+    ensures digest { IfOk result (λ saved. is_commit (answer_view saved.answer) ≡ true → saved.digest ≡ sha256 bytes.now) }
     ensures answer { IfOk result (λ saved. TellsIn name.now since bytes.now (answer_view saved.answer)) }
     ensures verdicts { IfOk result (λ saved. HasVerdicts saved.answer → name.now ≡ verdicts_file) }
 {
@@ -658,6 +659,7 @@ fn saved_of<'a>(
 #[tactic(auto, using(crate::proofs::Files::naming))]
 fn in_file(saved: Saved, name: &str) -> Saved
     ensures digest { result.digest ≡ saved.digest }
+    ensures commit { is_commit (answer_view result.answer) ≡ true → is_commit (answer_view saved.answer) ≡ true }
     ensures answer { answer_view result.answer ≡ told_in name.now (answer_view saved.answer) }
     ensures verdicts { HasVerdicts result.answer → name.now ≡ verdicts_file }
 {

@@ -1,5 +1,7 @@
--- How many elements an array has.
-use Rattle.std.proofs.Common.{◌≡◌, suc, List, [], ◌∷◌, length, refl, ap}
+-- How many elements an array has, and how many pass a test.
+use Rattle.std.proofs.Common.{◌≡◌, ◌+◌, ◌<◌, ℕ, suc, Bool, true, false, List, [], ◌∷◌, length, take, get_or, refl, ap, subst}
+use Rattle.std.specs.Prelude.{count_by}
+use Rattle.std.proofs.lemmas.List.Sums.{count_by_more_no, count_by_more_yes}
 use Rattle.serde_json.specs.declared.value.Value.{Value}
 use Rattle.serde_json.specs.View.{items_view}
 use Rattle.rb_import_answers.specs.Packets.{count_of}
@@ -9,3 +11,11 @@ count_of-view [] = refl
 count_of-view (v ∷ vs) = ap suc (count_of-view vs)
 
 pub ruleset counted = (count_of-view)
+
+pub one_more : {X : Type 0} (p : X → Bool) (xs : List X) (i : ℕ) (x : X) → i < length xs → x ≡ get_or xs i x → p x ≡ true → count_by p (take (i + 1) xs) ≡ count_by p (take i xs) + 1
+one_more p xs i x small is passes = count_by_more_yes p xs i x small (subst (λ y. p y ≡ true) is passes)
+
+pub none_more : {X : Type 0} (p : X → Bool) (xs : List X) (i : ℕ) (x : X) → i < length xs → x ≡ get_or xs i x → p x ≡ false → count_by p (take (i + 1) xs) ≡ count_by p (take i xs)
+none_more p xs i x small is fails = count_by_more_no p xs i x small (subst (λ y. p y ≡ false) is fails)
+
+pub ruleset counting = (one_more, none_more)

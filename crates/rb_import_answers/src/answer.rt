@@ -110,19 +110,31 @@ pub fn read_answer(alloc: Global, bytes: &[u8], since: u64) -> Result<NodeAnswer
 }
 
 /// How many bytes begin an object.
-#[tactic(auto, unfolding(crate::specs::Answers::object_count))]
+#[tactic(auto, using(crate::proofs::Counts::counting), unfolding(crate::specs::Answers::object_count))]
 fn object_count(bytes: &[u8]) -> usize
     ensures { result ≡ object_count bytes.now }
 {
-    bytes.iter().filter(|byte| begins_object(**byte)).count()
+    let mut count: usize = 0;
+    for byte in bytes {
+        if begins_object(*byte) {
+            count += 1;
+        }
+    }
+    count
 }
 
 /// How many bytes mark a value.
-#[tactic(auto, unfolding(crate::specs::Answers::value_count))]
+#[tactic(auto, using(crate::proofs::Counts::counting), unfolding(crate::specs::Answers::value_count))]
 fn value_count(bytes: &[u8]) -> usize
     ensures { result ≡ value_count bytes.now }
 {
-    bytes.iter().filter(|byte| marks_value(**byte)).count()
+    let mut count: usize = 0;
+    for byte in bytes {
+        if marks_value(*byte) {
+            count += 1;
+        }
+    }
+    count
 }
 
 /// Whether a byte begins an object.

@@ -1,16 +1,17 @@
 //! The answers that were saved, by what they are of.
-ghost use Rattle.std.specs.Prelude.{◌≡◌, ◌≤◌, Ok, Err, length, All, IfOk, IfErr, string_bytes};
+ghost use Rattle.std.specs.Prelude.{◌≡◌, ◌≤◌, true, Ok, Err, length, All, IfOk, IfErr, string_bytes};
 ghost use Rattle.sha2.specs.Sha256.{sha256};
 ghost use Rattle.rb_import_answers.specs.Answers.{answer_view, told};
 ghost use Rattle.rb_import_answers.specs.Said.{IsPlain};
-ghost use Rattle.rb_import_check.specs.Saved.{IsFlawOf, said_with};
+ghost use Rattle.rb_import_check.specs.Saved.{IsFlawOf, is_commit, said_with};
 
 use rb_import_answers::{NodeAnswer, read_answer, said_in, type_in};
 use rb_import_json::{AnswerError, FieldError, FieldErrorName};
 use sha2::{Digest, Sha256};
 use std::alloc::{AllocError, Global};
 
-/// An answer, the name of the file that it was saved in, and the SHA-256 of that file's content.
+/// An answer, the name of the file that it was saved in, and of a commit the SHA-256 of that file's content, by which
+/// verdicts know it; of others zeros.
 #[derive(Drop)]
 pub struct Saved {
     pub file: String,
@@ -49,18 +50,28 @@ pub fn read_saved(
     since: u64,
 ) -> Result<Saved, SavedError>
     ensures file { IfOk result (λ saved. saved.file ≡ file) }
-    ensures digest { IfOk result (λ saved. saved.digest ≡ sha256 bytes.now) }
+    ensures digest { IfOk result (λ saved. is_commit (answer_view saved.answer) ≡ true → saved.digest ≡ sha256 bytes.now) }
     ensures answer { IfOk result (λ saved. told since bytes.now ≡ Ok (answer_view saved.answer)) }
     ensures flaw { IfErr result (IsFlawOf since file bytes.now) }
 {
     match read_answer(alloc, bytes, since) {
         Ok(answer) => Ok(Saved {
             file,
-            digest: Sha256::digest(bytes),
+            digest: digest_of(&answer, bytes),
             answer,
         }),
         Err(AnswerError::Invalid(flaw)) => Err(flawed(alloc, file, bytes, since, flaw)),
         Err(AnswerError::NoMemory) => Err(SavedError::NoMemory),
+    }
+}
+
+/// The SHA-256 of a commit's file.
+fn digest_of(answer: &NodeAnswer, bytes: &[u8]) -> [u8; 32]
+    ensures { is_commit (answer_view answer.now) ≡ true → result ≡ sha256 bytes.now }
+{
+    match answer {
+        NodeAnswer::Commit(_) => Sha256::digest(bytes),
+        _ => [0; 32],
     }
 }
 

@@ -16,4 +16,4 @@ returns-in-Ok-clause-answer g c =
     let saved = c.in_ok-saved-in-Ok.saved in
     answer_of (g.F.AnswerFolders.known c.args.files.now) c.args.votes c.args.since c.args.folder.now c.args.name.now c.in-Ok.bytes.items c.as_slice.result.now
     (answer_view saved.answer) c.without_votes.result c.as_slice.ensures.value c.in-Ok.ensures c.in_ok-saved-in-Ok.ensures.answer
-    (c.without_votes.ensures.answer ∙ ap (λ v. kept v (answer_view saved.answer)) (sym c.in-LeftOut.is)) (c.without_votes.ensures.digest ∙ c.in_ok-saved-in-Ok.ensures.digest)
+    (c.without_votes.ensures.answer ∙ ap (λ v. kept v (answer_view saved.answer)) (sym c.in-LeftOut.is)) (λ is. c.without_votes.ensures.digest ∙ c.in_ok-saved-in-Ok.ensures.digest is)
