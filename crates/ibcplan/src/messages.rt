@@ -10,8 +10,8 @@ use crate::host::Host;
 use crate::parcel::Parcel;
 use ibcplan_cli::{Import, Input, ProgramError, status};
 use ibcplan_folders::{
-    AnswerFolders, HostFolders, MadeScript, PacketTexts, files_of, lines_of, made,
-    packet_texts, read_answers, write_files,
+    AnswerFolders, HostFolders, MadeScript, PacketTexts, files_of, lines_of, made, packet_texts,
+    read_answers, write_files,
 };
 use rb_base::Gate;
 use rb_core::Core;
