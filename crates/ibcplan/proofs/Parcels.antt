@@ -15,7 +15,7 @@ use Rattle.rb_sending.specs.declared.batch.PlannedBatch.{PlannedBatch}
 use Rattle.ibcplan_folders.specs.Files.{signatures_of}
 use Rattle.ibcplan_folders.specs.Fleets.{IsMadeBy}
 use Rattle.ibcplan_folders.specs.Folders.{AnswerFile}
-use Rattle.ibcplan_folders.specs.declared.importing.Answers.{Answers}
+use Rattle.ibcplan_cli.specs.declared.given.Import.{Import}
 use Rattle.ibcplan.specs.Headline.{AreMessagesOf, AreSendersOf, HasParcel, IsParcelOf, IsSentBy}
 use Rattle.ibcplan.specs.Sendings.{IsSendingOf}
 use Rattle.ibcplan.specs.declared.messages.Sent.{Sent}
@@ -33,13 +33,13 @@ parcel_sent known script senders relayer updates batches (Ok sent) sending has =
     some_parcel (IsSentBy known relayer updates batches senders) (IsParcelOf known script senders) sent.parcel
     (λ p has. record { relayer = relayer; updates = updates; batches = batches; sending = sending; sent = has }) has
 
-pub setup_sent : {E : Type 0} (known : Option (List AnswerFile)) (bytes : List ℕ) (source : Answers) (script : CodeScript Global) (senders : List (Option Sender)) (sent : Sent) (r : Result Sent E)
-    → IsMadeBy known bytes (signatures_of source) script → AreSendersOf bytes senders → IfSome sent.parcel (IsParcelOf known (script_view script) senders) → IfOk r (λ told. told.parcel ≡ sent.parcel)
-    → IfOk r (λ told. IfSome told.parcel (AreMessagesOf known bytes source))
-setup_sent known bytes source script senders sent (Err e) made by is same = tt
-setup_sent known bytes source script senders sent (Ok told) made by is same =
-    subst (λ (o : Option Parcel). IfSome o (AreMessagesOf known bytes source)) (sym same)
-    (some_parcel (IsParcelOf known (script_view script) senders) (AreMessagesOf known bytes source) sent.parcel
+pub setup_sent : {E : Type 0} (known : Option (List AnswerFile)) (bytes : List ℕ) (asked : Import) (script : CodeScript Global) (senders : List (Option Sender)) (sent : Sent) (r : Result Sent E)
+    → IsMadeBy known bytes (signatures_of asked) script → AreSendersOf bytes senders → IfSome sent.parcel (IsParcelOf known (script_view script) senders) → IfOk r (λ told. told.parcel ≡ sent.parcel)
+    → IfOk r (λ told. IfSome told.parcel (AreMessagesOf known bytes asked))
+setup_sent known bytes asked script senders sent (Err e) made by is same = tt
+setup_sent known bytes asked script senders sent (Ok told) made by is same =
+    subst (λ (o : Option Parcel). IfSome o (AreMessagesOf known bytes asked)) (sym same)
+    (some_parcel (IsParcelOf known (script_view script) senders) (AreMessagesOf known bytes asked) sent.parcel
     (λ p parcel. record { script = script; senders = senders; made = made; sent_by = by; parcel = parcel }) is)
 
 pub senders_read : (bytes read : List ℕ) (setup : Setup) → read ≡ bytes → setup_of read ≡ Ok (setup_view setup) → AreSendersOf bytes setup.senders.items

@@ -17,7 +17,7 @@ use Rattle.ibcplan_folders.specs.Files.{signatures_of}
 use Rattle.ibcplan_folders.specs.Folders.{AnswerFile}
 use Rattle.ibcplan_folders.specs.Messages.{AreMessagesIn}
 use Rattle.ibcplan_folders.specs.Packets.{ArePacketTexts}
-use Rattle.ibcplan_folders.specs.declared.importing.Answers.{Answers}
+use Rattle.ibcplan_cli.specs.declared.given.Import.{Import}
 use Rattle.ibcplan.specs.Sendings.{IsSendingOf}
 use Rattle.ibcplan.specs.declared.parcel.Parcel.{Parcel}
 
@@ -48,9 +48,9 @@ abbrev pub AreSendersOf : List ℕ → List (Option Sender) → Type 0
 AreSendersOf bytes senders = (setup : Setup) × (setup_of bytes ≡ Ok setup) × (map (option_map sender_view) senders ≡ setup.senders)
 
 -- the files of what the script sends that a setup and the files of its folders make
-pub record AreMessagesOf (known : Option (List AnswerFile)) (bytes : List ℕ) (source : Answers) (p : Parcel) : Type 0 where
+pub record AreMessagesOf (known : Option (List AnswerFile)) (bytes : List ℕ) (asked : Import) (p : Parcel) : Type 0 where
   pub script : CodeScript Global
   pub senders : List (Option Sender)
-  pub made : IsMadeBy known bytes (signatures_of source) script
+  pub made : IsMadeBy known bytes (signatures_of asked) script
   pub sent_by : AreSendersOf bytes senders
   pub parcel : IsParcelOf known (script_view script) senders p

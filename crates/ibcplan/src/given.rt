@@ -6,7 +6,7 @@ ghost use Rattle.ibcplan_cli.specs.Failures.{failure_status, told_fault};
 
 use crate::host::Host;
 use ibcplan_cli::{Given, Import, Input, ProgramError, Shown, status};
-use ibcplan_folders::{Answers, HostFolders, MadeScript, made};
+use ibcplan_folders::{HostFolders, MadeScript, made};
 use rb_import_setup::{is_setup, read_setup};
 use rb_script_read::{read_script, read_script_by};
 use rb_script_toml::RunError;
@@ -87,22 +87,13 @@ pub fn script_of_setup<'a, R: Host>(
         script,
         notices,
         status,
-    } = made(&files, input, answers_of(import))?;
+    } = made(&files, input, import)?;
     Ok(GivenScript {
         script,
         file: input.name(),
         notices,
         status,
     })
-}
-
-/// The answers that are imported.
-pub fn answers_of<'a>(import: Import<'a>) -> Answers<'a> {
-    Answers {
-        folder: import.folder,
-        is_all_or_nothing: import.is_all_or_nothing,
-        is_verified: import.is_verified,
-    }
 }
 
 /// Whether a text is a script and no setup.

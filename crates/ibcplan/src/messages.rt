@@ -5,13 +5,13 @@ ghost use Rattle.ibcplan.specs.Headline.{AreMessagesOf, AreSendersOf, HasParcel,
 ghost use Rattle.ibcplan.specs.Sendings.{IsSendingOf};
 ghost use Rattle.ibcplan_folders.specs.Packets.{ArePacketTexts};
 
-use crate::given::{answers_of, script_of_text};
+use crate::given::script_of_text;
 use crate::host::Host;
 use crate::parcel::Parcel;
 use ibcplan_cli::{Import, Input, ProgramError, status};
 use ibcplan_folders::{
-    AnswerFolders, Answers, HostFolders, MadeScript, PacketTexts, files_of, lines_of, made,
-    packet_texts, read_answers, write_files,
+    AnswerFolders, HostFolders, MadeScript, PacketTexts, files_of, lines_of, made, packet_texts,
+    read_answers, write_files,
 };
 use rb_base::Gate;
 use rb_core::Core;
@@ -65,7 +65,7 @@ pub fn messages_of<'a, R: Host, G: Gate + Sync>(
         folder: import.folder,
     };
     let sent = match is_setup(rt.alloc(), input.bytes()) {
-        Ok(true) => sent_by_setup(rt, &files, &input, answers_of(import), gate)?,
+        Ok(true) => sent_by_setup(rt, &files, &input, import, gate)?,
         Ok(false) => sent_by_text(rt, &files, &input, gate)?,
         Err(_) => return Err(ProgramError::NoMemory),
     };
@@ -87,13 +87,13 @@ pub fn sent_by_setup<'a, R: Threads + Sync, F: AnswerFolders, G: Gate + Sync>(
     rt: &R,
     files: &F,
     input: &Input<'a>,
-    answers: Answers<'_>,
+    import: Import<'_>,
     gate: &G,
 ) -> Result<Sent, ProgramError<'a>>
-    ensures { IfOk result (λ sent. IfSome sent.parcel (AreMessagesOf (F.known files.now) input.now answers.entry)) }
+    ensures { IfOk result (λ sent. IfSome sent.parcel (AreMessagesOf (F.known files.now) input.now import.entry)) }
 {
     let senders = senders_of(files.alloc(), input)?;
-    let imported = made(files, input, answers)?;
+    let imported = made(files, input, import)?;
     let MadeScript {
         script,
         notices,

@@ -11,7 +11,7 @@ use crate::explained::Explained;
 use crate::first_text::{FirstText, first_text, last_text};
 use crate::following::follow;
 use crate::forms::{commands_of_script, json_of_script};
-use crate::given::{GivenScript, answers_of, given_script, script_of_text};
+use crate::given::{GivenScript, given_script, script_of_text};
 use crate::health::health_of_script;
 use crate::host::Host;
 use crate::journal::{OpenedJournal, open_journal};
@@ -367,7 +367,7 @@ fn import_files<'a, R: Host, W: Sink>(
         script,
         notices,
         status,
-    } = imported(rt, &setup, answers_of(import))?;
+    } = imported(rt, &setup, import)?;
     write(script.as_str(), output)?;
     Ok(Done {
         status,

@@ -9,7 +9,7 @@ use Rattle.rb_import_check.specs.declared.signed.Signatures.TheVariants.{AsGiven
 use Rattle.rb_import_merge.specs.Seen.{HoldsOfSeen}
 use Rattle.rb_import.specs.Scripts as made
 use Rattle.rb_import.specs.Scripts.{IsFitting}
-use Rattle.ibcplan_folders.specs.declared.importing.Answers.{Answers}
+use Rattle.ibcplan_cli.specs.declared.given.Import.{Import}
 use Rattle.ibcplan_folders.specs.declared.importing.ImportedText.{ImportedText}
 use Rattle.ibcplan_folders.specs.declared.left_out.Fleet.{Fleet}
 
@@ -22,8 +22,8 @@ abbrev pub HasVerdicts : NodeAnswer → Type 0
 HasVerdicts a = is_verified (answer_view a) ≡ true
 
 -- which votes count: all, or those with a good verdict
-abbrev pub signatures_of : Answers → Signatures
-signatures_of source = if source.is_verified then Verified else AsGiven
+abbrev pub signatures_of : Import → Signatures
+signatures_of asked = if asked.is_verified then Verified else AsGiven
 
 -- the text is that of the script of a fleet's answers, of which these votes count
 abbrev pub IsScriptOf : Fleet → Signatures → List ℕ → Type 0

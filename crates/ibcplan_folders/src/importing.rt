@@ -18,7 +18,7 @@ ghost use Rattle.ibcplan_folders.specs.LeftOut.{import_status};
 use crate::answer_folders::{AnswerFolders, HostFolders};
 use crate::file_system::FileSystem;
 use crate::left_out::{Failure, Failures, Fleet, LeftOut, is_tracked};
-use ibcplan_cli::{Input, ProgramError, shown_text};
+use ibcplan_cli::{Import, Input, ProgramError, shown_text};
 use rb_base::ChainId;
 use rb_import::{Composed, Made, compose, make};
 use rb_import_answers::revision_of;
@@ -30,15 +30,6 @@ use rb_import_setup::{ClientSetup, PathSetup, Setup, read_setup};
 use rb_script_types::Script;
 use std::alloc::{AllocError, Global};
 use std::io;
-
-/// The folder with the answers of nodes, whether nothing is written where some of them are refused, and whether only
-/// votes with a good verdict count.
-#[derive(Clone, Copy)]
-pub struct Answers<'f> {
-    pub folder: &'f str,
-    pub is_all_or_nothing: bool,
-    pub is_verified: bool,
-}
 
 /// The text of a script, lines that tell what is left out and which answers aren't there, and the status to end with.
 #[derive(Drop)]
@@ -60,43 +51,43 @@ pub struct MadeScript {
 pub fn imported<'a, R: FileSystem>(
     rt: &R,
     input: &Input<'a>,
-    answers: Answers<'_>,
+    import: Import<'_>,
 ) -> Result<ImportedText, ProgramError<'a>> {
     let mut left_out = LeftOut::nothing(rt.alloc());
     let files = HostFolders {
         rt,
-        folder: answers.folder,
+        folder: import.folder,
     };
-    let fleet = fleet_of(&files, input, answers, &mut left_out)?;
-    composed(rt.alloc(), fleet, answers, left_out)
+    let fleet = fleet_of(&files, input, import, &mut left_out)?;
+    composed(rt.alloc(), fleet, import, left_out)
 }
 
 /// The script that a setup and the answers in a folder make, of which `imported` gives the text.
 pub fn made<'a, F: AnswerFolders>(
     files: &F,
     input: &Input<'a>,
-    answers: Answers<'_>,
+    import: Import<'_>,
 ) -> Result<MadeScript, ProgramError<'a>>
     ensures form { IfOk result (λ made. IsReadScript (script_view made.script)) }
     ensures little { IfOk result (λ made. little (script_view made.script).config (script_view made.script).turns ≡ Ok tt) }
-    ensures script { IfOk result (λ made. IsMadeBy (F.known files.now) input.now (signatures_of answers.entry) made.script) }
+    ensures script { IfOk result (λ made. IsMadeBy (F.known files.now) input.now (signatures_of import.entry) made.script) }
 {
     let mut left_out = LeftOut::nothing(files.alloc());
-    let fleet = fleet_of(files, input, answers, &mut left_out)?;
-    scripted(files.alloc(), fleet, answers, left_out)
+    let fleet = fleet_of(files, input, import, &mut left_out)?;
+    scripted(files.alloc(), fleet, import, left_out)
 }
 
 /// The setup of an input, with the answers in a folder.
 fn fleet_of<'a, F: AnswerFolders>(
     files: &F,
     input: &Input<'a>,
-    answers: Answers<'_>,
+    import: Import<'_>,
     left_out: &mut LeftOut<'a>,
 ) -> Result<Fleet, ProgramError<'a>>
     ensures { IfOk result (IsFleetOf (F.known files.now) input.now) }
 {
     match read_setup(files.alloc(), input.bytes()) {
-        Ok(setup) => read_fleet(files, setup, answers, left_out),
+        Ok(setup) => read_fleet(files, setup, import, left_out),
         Err(error) => Err(ProgramError::of_setup(error, input)),
     }
 }
@@ -106,20 +97,20 @@ fn fleet_of<'a, F: AnswerFolders>(
 fn composed<'a>(
     alloc: Global,
     fleet: Fleet,
-    source: Answers<'_>,
+    import: Import<'_>,
     left_out: LeftOut<'a>,
 ) -> Result<ImportedText, ProgramError<'a>>
     ensures whole { IfOk result (λ text. text.status ≡ 0 → Opens (hold_verdicts fleet.answers) (string_bytes text.script)) }
     ensures in_part { IfOk result (λ text. is_some left_out.entry.first ≡ true → text.status ≡ 7) }
-    ensures script { IfOk result (IsScriptOfRest fleet (signatures_of source.entry)) }
+    ensures script { IfOk result (IsScriptOfRest fleet (signatures_of import.entry)) }
 {
     let mut fleet = fleet;
     let mut left_out = left_out;
     'rounds: loop {
-        let signatures = signatures_of(source);
+        let signatures = signatures_of(import);
         let failures = match compose(alloc, &fleet.setup, signatures, &fleet.answers) {
             Ok(composed) => return imported_text(alloc, composed, &left_out),
-            Err(errors) => failures_of(alloc, &errors, source)?,
+            Err(errors) => failures_of(alloc, &errors, import)?,
         };
         fleet = left_out.without_all(alloc, fleet, failures)?;
     }
@@ -130,31 +121,31 @@ fn composed<'a>(
 fn scripted<'a>(
     alloc: Global,
     fleet: Fleet,
-    source: Answers<'_>,
+    import: Import<'_>,
     left_out: LeftOut<'a>,
 ) -> Result<MadeScript, ProgramError<'a>>
     ensures in_part { IfOk result (λ made. is_some left_out.entry.first ≡ true → made.status ≡ 7) }
-    ensures script { IfOk result (IsMadeOfLeft fleet (signatures_of source.entry)) }
+    ensures script { IfOk result (IsMadeOfLeft fleet (signatures_of import.entry)) }
     ensures form { IfOk result (λ made. IsReadScript (script_view made.script)) }
     ensures little { IfOk result (λ made. little (script_view made.script).config (script_view made.script).turns ≡ Ok tt) }
 {
     let mut fleet = fleet;
     let mut left_out = left_out;
     'rounds: loop {
-        let signatures = signatures_of(source);
+        let signatures = signatures_of(import);
         let failures = match make(alloc, &fleet.setup, signatures, &fleet.answers) {
             Ok(made) => return made_script(alloc, made, &left_out),
-            Err(errors) => failures_of(alloc, &errors, source)?,
+            Err(errors) => failures_of(alloc, &errors, import)?,
         };
         fleet = left_out.without_all(alloc, fleet, failures)?;
     }
 }
 
 /// Which votes count.
-fn signatures_of(source: Answers<'_>) -> Signatures
-    ensures { result ≡ signatures_of source.entry }
+fn signatures_of(import: Import<'_>) -> Signatures
+    ensures { result ≡ signatures_of import.entry }
 {
-    if source.is_verified {
+    if import.is_verified {
         Signatures::Verified
     } else {
         Signatures::AsGiven
@@ -213,13 +204,13 @@ fn told<'a>(
 fn failures_of<'a>(
     alloc: Global,
     errors: &ImportErrors<'_>,
-    source: Answers<'_>,
+    import: Import<'_>,
 ) -> Result<Failures<'a>, ProgramError<'a>> {
     let ImportErrors::Refused(refusals) = errors else {
         return Err(ProgramError::NoMemory);
     };
     let first = failure_of(alloc, &refusals.first)?;
-    if source.is_all_or_nothing {
+    if import.is_all_or_nothing {
         return Err(first.error);
     }
     let mut others = Vec::new(alloc);
@@ -275,7 +266,7 @@ fn without_answers(alloc: Global, setup: Setup) -> Fleet
 fn read_fleet<'a, F: AnswerFolders>(
     files: &F,
     setup: Setup,
-    answers: Answers<'_>,
+    import: Import<'_>,
     left_out: &mut LeftOut<'a>,
 ) -> Result<Fleet, ProgramError<'a>>
     ensures rest { IfOk result (λ fleet. IsRestOf setup fleet.setup) }
@@ -284,16 +275,16 @@ fn read_fleet<'a, F: AnswerFolders>(
     ensures paths { IfOk result (PathsHave (AreTold (F.known files.now))) }
 {
     let empty = without_answers(files.alloc(), setup);
-    let chains = with_chains(files, empty, answers, left_out)?;
-    let clients = with_clients(files, chains, answers, left_out)?;
-    with_paths(files, clients, answers, left_out)
+    let chains = with_chains(files, empty, import, left_out)?;
+    let clients = with_clients(files, chains, import, left_out)?;
+    with_paths(files, clients, import, left_out)
 }
 
 /// The fleet with the answers of its chains, without what goes with those that are refused.
 fn with_chains<'a, F: AnswerFolders>(
     files: &F,
     fleet: Fleet,
-    answers: Answers<'_>,
+    import: Import<'_>,
     left_out: &mut LeftOut<'a>,
 ) -> Result<Fleet, ProgramError<'a>>
     ensures rest { IfOk result (λ left. IsRestOf fleet.setup left.setup) }
@@ -305,7 +296,7 @@ fn with_chains<'a, F: AnswerFolders>(
         files,
         fleet.setup.chains.as_slice(),
         &fleet.setup,
-        answers,
+        import,
         &mut failures,
     )?;
     fleet.answers.chains = chains;
@@ -316,7 +307,7 @@ fn with_chains<'a, F: AnswerFolders>(
 fn with_clients<'a, F: AnswerFolders>(
     files: &F,
     fleet: Fleet,
-    answers: Answers<'_>,
+    import: Import<'_>,
     left_out: &mut LeftOut<'a>,
 ) -> Result<Fleet, ProgramError<'a>>
     requires chains { ChainsHave (AreTold (F.known files.now)) fleet }
@@ -330,7 +321,7 @@ fn with_clients<'a, F: AnswerFolders>(
         files,
         fleet.setup.chains.as_slice(),
         fleet.setup.clients.as_slice(),
-        answers,
+        import,
         &mut failures,
     )?;
     fleet.answers.clients = clients;
@@ -341,7 +332,7 @@ fn with_clients<'a, F: AnswerFolders>(
 fn with_paths<'a, F: AnswerFolders>(
     files: &F,
     fleet: Fleet,
-    answers: Answers<'_>,
+    import: Import<'_>,
     left_out: &mut LeftOut<'a>,
 ) -> Result<Fleet, ProgramError<'a>>
     requires chains { ChainsHave (AreTold (F.known files.now)) fleet }
@@ -353,7 +344,7 @@ fn with_paths<'a, F: AnswerFolders>(
 {
     let mut fleet = fleet;
     let mut failures = Vec::new(files.alloc());
-    let paths = path_answers(files, fleet.setup.paths.as_slice(), answers, &mut failures)?;
+    let paths = path_answers(files, fleet.setup.paths.as_slice(), import, &mut failures)?;
     fleet.answers.paths = paths;
     without_all(files.alloc(), fleet, failures, left_out)
 }
@@ -380,7 +371,7 @@ fn chain_answers<'a, F: AnswerFolders>(
     files: &F,
     chains: &[ChainId],
     setup: &Setup,
-    source: Answers<'_>,
+    import: Import<'_>,
     failures: &mut Vec<Failure<'a>>,
 ) -> Result<Vec<Vec<Saved>>, ProgramError<'a>>
     ensures { IfOk result (λ answers. AllZip (ChainHas (OrFailed (AreTold (F.known files.now)) (failed failures.new.items)) setup.now.clients.items) (enumerate_from 0 chains.now) answers.items) }
@@ -388,7 +379,7 @@ fn chain_answers<'a, F: AnswerFolders>(
     let mut answers = Vec::new(files.alloc());
     for (place, chain) in chains.iter().enumerate() {
         let is_needed = is_tracked(setup, place);
-        let saved = needed_answers(files, source, chain.as_str(), is_needed, failures)?;
+        let saved = needed_answers(files, import, chain.as_str(), is_needed, failures)?;
         add(&mut answers, saved)?;
     }
     Ok(answers)
@@ -397,7 +388,7 @@ fn chain_answers<'a, F: AnswerFolders>(
 /// The answers of a chain, if they are needed.
 fn needed_answers<'a, F: AnswerFolders>(
     files: &F,
-    source: Answers<'_>,
+    import: Import<'_>,
     id: &str,
     is_needed: bool,
     failures: &mut Vec<Failure<'a>>,
@@ -406,7 +397,7 @@ fn needed_answers<'a, F: AnswerFolders>(
     ensures more { OnOk result (HasMore (failed failures.old.items) (failed failures.new.items)) }
 {
     if is_needed {
-        answers_of(files, source, id, 0, failures)
+        answers_of(files, import, id, 0, failures)
     } else {
         Ok(Vec::new(files.alloc()))
     }
@@ -417,7 +408,7 @@ fn client_answers<'a, F: AnswerFolders>(
     files: &F,
     chains: &[ChainId],
     clients: &[ClientSetup],
-    source: Answers<'_>,
+    import: Import<'_>,
     failures: &mut Vec<Failure<'a>>,
 ) -> Result<Vec<Vec<Saved>>, ProgramError<'a>>
     ensures { IfOk result (λ answers. AllZip (ClientHas (OrFailed (AreTold (F.known files.now)) (failed failures.new.items)) chains.now) clients.now answers.items) }
@@ -425,7 +416,7 @@ fn client_answers<'a, F: AnswerFolders>(
     let mut answers = Vec::new(files.alloc());
     for client in clients {
         let since = tracked_revision(chains, client);
-        let saved = answers_of(files, source, client.id.as_str(), since, failures)?;
+        let saved = answers_of(files, import, client.id.as_str(), since, failures)?;
         add(&mut answers, saved)?;
     }
     Ok(answers)
@@ -435,14 +426,14 @@ fn client_answers<'a, F: AnswerFolders>(
 fn path_answers<'a, F: AnswerFolders>(
     files: &F,
     paths: &[PathSetup],
-    source: Answers<'_>,
+    import: Import<'_>,
     failures: &mut Vec<Failure<'a>>,
 ) -> Result<Vec<Vec<Saved>>, ProgramError<'a>>
     ensures { IfOk result (λ answers. AllZip (OrFailed (AreTold (F.known files.now)) (failed failures.new.items) 0) (path_ids paths.now) answers.items) }
 {
     let mut answers = Vec::new(files.alloc());
     for path in paths {
-        let saved = answers_of(files, source, path.config.id.as_str(), 0, failures)?;
+        let saved = answers_of(files, import, path.config.id.as_str(), 0, failures)?;
         add(&mut answers, saved)?;
     }
     Ok(answers)
@@ -462,7 +453,7 @@ pub fn tracked_revision(chains: &[ChainId], client: &ClientSetup) -> u64
 /// they are refused, which is then a failure of it.
 fn answers_of<'a, F: AnswerFolders>(
     files: &F,
-    source: Answers<'_>,
+    import: Import<'_>,
     id: &str,
     since: u64,
     failures: &mut Vec<Failure<'a>>,
@@ -472,7 +463,7 @@ fn answers_of<'a, F: AnswerFolders>(
 {
     match read_folder(files, id, since, Votes::LeftOut) {
         Ok(saved) => Ok(saved),
-        Err(error) if source.is_all_or_nothing || !is_of_answers(&error) => Err(error),
+        Err(error) if import.is_all_or_nothing || !is_of_answers(&error) => Err(error),
         Err(error) => {
             add(failures, failure_at(files.alloc(), id, error)?)?;
             Ok(Vec::new(files.alloc()))

@@ -13,7 +13,7 @@ mod wanting;
 
 pub use answer_folders::{AnswerFolders, HostFolders};
 pub use file_system::FileSystem;
-pub use importing::{Answers, ImportedText, MadeScript, imported, made};
+pub use importing::{ImportedText, MadeScript, imported, made};
 pub use memory_folders::{MemoryFile, MemoryFolders};
 pub use messaging::{files_of, lines_of, read_answers, write_files};
 pub use packets::{PacketTexts, packet_texts};

@@ -15,7 +15,7 @@ returns-in-Ok-clause-in_part c =
 
 pub returns-in-Ok-clause-script : goal.returns-in-Ok-clause-script
 returns-in-Ok-clause-script c =
-    let votes = signatures_of c.args.source in
+    let votes = signatures_of c.args.import in
     let left = c.rounds.fleet in
     let text = c.in-Ok.composed.text in
     let of_left : IsScriptOf left votes (string_bytes text) =
