@@ -2,6 +2,7 @@ pub use Rattle.rb_script_types.specs.Config
 pub use Rattle.rb_script_types.specs.Script
 pub use Rattle.rb_script_toml.specs.Faults
 pub mod Names
+pub mod Front
 pub mod TurnNames
 pub mod Sets
 pub mod Ready

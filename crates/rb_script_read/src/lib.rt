@@ -5,6 +5,7 @@
 
 mod document;
 mod event;
+mod front;
 mod names;
 mod packet;
 mod ready;
