@@ -12,3 +12,4 @@ pub mod Work
 pub mod Turns
 pub mod NextTurns
 pub mod Scripts
+pub mod Plain

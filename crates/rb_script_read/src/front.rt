@@ -1,6 +1,6 @@
 //! TOML values at the front of a text, read one at a time. What isn't plain, as a key with points, is left to the
 //! reader of whole texts.
-ghost use Rattle.std.specs.Prelude.{◌≡◌, ℕ, ◌<◌, ◌≤◌, [], Some, length, string_bytes, IfOk, OnOk};
+ghost use Rattle.std.specs.Prelude.{◌≡◌, ℕ, ◌<◌, ◌≤◌, [], Some, None, length, string_bytes, IfOk, OnOk};
 ghost use Rattle.toml.specs.Data.{no_items};
 ghost use Rattle.toml.specs.View.{view, array_view, table_view};
 ghost use Rattle.toml.specs.Tables as tables;
@@ -157,7 +157,8 @@ pub fn plain_key(alloc: Global, s: &str) -> Result<(String, &str), NotPlain>
 
 /// Gives a key of a table a value, unless it has one.
 pub fn put(table: &mut Table, key: String, value: Value) -> Result<(), NotPlain>
-    ensures { OnOk result (tables.put ([], string_bytes key) (view value) (values_of (table_view table.old)) ≡ Some (values_of (table_view table.new))) }
+    ensures absent { OnOk result (tables.get_node (string_bytes key) (values_of (table_view table.old)) ≡ None) }
+    ensures written { OnOk result (values_of (table_view table.new) ≡ tables.insert (string_bytes key) (tables.value (view value)) (values_of (table_view table.old))) }
 {
     if table.contains_key(key.as_str()) {
         return Err(NotPlain);

@@ -8,6 +8,7 @@ mod event;
 mod front;
 mod names;
 mod packet;
+mod plain;
 mod ready;
 mod script;
 mod set;

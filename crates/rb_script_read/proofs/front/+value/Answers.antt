@@ -6,7 +6,7 @@ use Rattle.toml.specs.Parse.{key_equals, val}
 use Rattle.toml.specs.View.{table_view}
 use Rattle.toml.proofs.Turns.{val_atom, val_open_array, val_open_table, keyval_ok, items_end, items_more, members_end, members_more}
 use Rattle.toml.proofs.Views.{view-Array, view-Table, items_view-push}
-use Rattle.rb_script_read.proofs.FrontLemmas.{close-values}
+use Rattle.rb_script_read.proofs.FrontLemmas.{close-values, put-new}
 use Rattle.rb_script_read.proofs.front.+value.Goals as goal
 
 pub array-items-init : goal.array-items-init
@@ -60,7 +60,7 @@ inline_table-members-preserved c c' =
       omega (arith, l.invariant.1),
       λ n h.
           let (m, room, loop) = l.invariant.2 n h in
-          (m - 1, omega arith, loop ∙ members_more (val c'.args.depth) m _ _ l.rest.now key _ _ _ (omega arith) other read c'.in_ok-put.ensures c'.in_ok-rest.ensures.value),
+          (m - 1, omega arith, loop ∙ members_more (val c'.args.depth) m _ _ l.rest.now key _ _ _ (omega arith) other read (rw (← c'.in_ok-put.ensures.written) at (put-new key.1 _ _ c'.in_ok-put.ensures.absent)) c'.in_ok-rest.ensures.value),
     )
 
 pub value-returns-then-byte-ne123-clause-value : goal.value-returns-then-byte-ne123-clause-value
