@@ -4,5 +4,6 @@ pub mod SetsLemmas
 pub mod ReadyLemmas
 pub mod EventsLemmas
 pub mod FrontLemmas
+pub mod PlainLemmas
 pub mod Forms
 pub mod DocumentsLemmas

@@ -1,6 +1,6 @@
 //! A plain script, whose events are held as TOML one at a time: its keys stand first, each on a line, then its turns,
 //! each under `[[turn]]`. Any other text is left to the reader of whole texts, and so is each that has a fault.
-ghost use Rattle.std.specs.Prelude.{◌≡◌, ℕ, ◌<◌, [], ◌==◌, true, false, codes, length, string_bytes, IfOk, IfSome, IsTrue, Some, Ok, map};
+ghost use Rattle.std.specs.Prelude.{◌≡◌, ℕ, ◌<◌, ◌≤◌, [], ◌==◌, true, false, codes, length, string_bytes, IfOk, IfSome, IsTrue, Some, Ok, map};
 ghost use Rattle.toml_parser.specs.Lexical.{first, skip_ws};
 ghost use Rattle.toml.specs.Data.{Items, no_items, table, push_item, Members};
 ghost use Rattle.toml.specs.View.{view, table_view};
@@ -241,9 +241,9 @@ fn turn_around(
     events: Vec<Observation>,
     names: TurnNames<'_>,
 ) -> Result<NextTurn, NotPlain>
-    requires earlier { names.entry.earlier.now ≡ reading.now.names }
+    requires earlier { names.earlier.now ≡ reading.now.names }
     ensures { (ds : Items)
-        → AreRead (setup_view setup.now) (child section.now.path.now (codes "event")) (names_of reading.now.names) (table_view section.now.table.now) ds events.entry.items (names_now names.entry)
+        → AreRead (setup_view setup.now) (child section.now.path.now (codes "event")) (names_of reading.now.names) (table_view section.now.table.now) ds events.items (names_now names)
         → IfOk result (λ n. turn (setup_view setup.now) (reading_view reading.now) (with_events ds (section_view section.now)) ≡ Ok (next_turn_view (reading_view reading.now) n)) }
 {
     let Some(room) = reading.room.checked_sub(events.len()) else {

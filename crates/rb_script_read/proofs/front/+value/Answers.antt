@@ -1,11 +1,12 @@
-use Rattle.std.proofs.Common.{◌≡◌, ◌==◌, ◌-◌, ◌<◌, true, false, [], length, string_bytes, le_refl, ◌∙◌, rules, arith, Some}
+use Rattle.std.proofs.Common.{◌≡◌, ◌==◌, ◌-◌, ◌<◌, true, false, [], length, string_bytes, le_refl, ◌∙◌, ap, sym, rules, arith, Some}
 use Rattle.std.proofs.lemmas.Grind.{common_steps}
 use Rattle.toml_parser.specs.Strings.{Key}
 use Rattle.toml_parser.specs.Lexical.{first, skip_blank}
 use Rattle.toml.specs.Parse.{key_equals, val}
-use Rattle.toml.specs.View.{table_view}
+use Rattle.toml.specs.View.{view, table_view}
 use Rattle.toml.proofs.Turns.{val_atom, val_open_array, val_open_table, keyval_ok, items_end, items_more, members_end, members_more}
 use Rattle.toml.proofs.Views.{view-Array, view-Table, items_view-push}
+use Rattle.rb_script_read.specs.Front.{values_of}
 use Rattle.rb_script_read.proofs.FrontLemmas.{close-values, put-new}
 use Rattle.rb_script_read.proofs.front.+value.Goals as goal
 
@@ -55,12 +56,13 @@ inline_table-members-preserved c c' =
     let shorter = c'.in_ok-key.ensures.shorter in
     let shorter_again = c'.in_ok-member.ensures.shorter in
     let within = c'.in_ok-rest.ensures.within in
-    let before = c'.skip_blank-start.ensures.within in (
+    let before = c'.skip_blank-start.ensures.within in
+    let added = put-new key.1 (view c'.in_ok-member.member) (values_of (table_view l.found)) c'.in_ok-put.ensures.absent ∙ ap Some (sym c'.in_ok-put.ensures.written) in (
       search rules,
       omega (arith, l.invariant.1),
       λ n h.
           let (m, room, loop) = l.invariant.2 n h in
-          (m - 1, omega arith, loop ∙ members_more (val c'.args.depth) m _ _ l.rest.now key _ _ _ (omega arith) other read (rw (← c'.in_ok-put.ensures.written) at (put-new key.1 _ _ c'.in_ok-put.ensures.absent)) c'.in_ok-rest.ensures.value),
+          (m - 1, omega arith, loop ∙ members_more (val c'.args.depth) m _ _ l.rest.now key _ _ _ (omega arith) other read added c'.in_ok-rest.ensures.value),
     )
 
 pub value-returns-then-byte-ne123-clause-value : goal.value-returns-then-byte-ne123-clause-value
