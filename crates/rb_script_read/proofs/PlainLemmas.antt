@@ -20,11 +20,11 @@ use Rattle.rb_script_toml.specs.Faults.{Fault, ◌>>=◌, check}
 use Rattle.rb_script_toml.specs.Fields.{Field, Section, section_at, needs, required, optional, or_default, only, unknown_key, items, items_count, next_in_sequence, in_sequence}
 use Rattle.rb_script_toml.specs.Fields.{time, elements, array as array_of}
 use Rattle.rb_script_toml.specs.KeyPaths.{child, element}
-use Rattle.rb_script_toml.specs.Documents.{whole}
+use Rattle.rb_script_toml.specs.Documents.{document, whole}
 use Rattle.rb_script_toml.specs.declared.fault.FaultName.TheVariants.{TooManyEvents, BadWindow}
 use Rattle.rb_script_types.specs.Config.{Config}
 use Rattle.rb_script_types.specs.Limits.{max_chains, max_clients, max_paths, max_turns}
-use Rattle.rb_script_types.specs.Script.{Turn}
+use Rattle.rb_script_types.specs.Script.{Script, Turn, IsReadScript}
 use Rattle.rb_script_types.specs.declared.script.Asked.{Asked}
 use Rattle.rb_script_types.specs.declared.script.HostWindow.{HostWindow}
 use Rattle.rb_script_types.specs.declared.script.Settlement.{Settlement}
@@ -39,7 +39,7 @@ use Rattle.rb_script_config.specs.Versions.{version}
 use Rattle.rb_script_config.proofs.ConfigForms.{pass, same_ok, check-passed}
 use Rattle.rb_script_read.specs.Events.{event}
 use Rattle.rb_script_read.specs.Names.{Names}
-use Rattle.rb_script_read.specs.Scripts.{script}
+use Rattle.rb_script_read.specs.Scripts.{script, script_of}
 use Rattle.rb_script_read.specs.Turns.{TurnHead, Reading, entries, frame, is_taken, opening, turn, turn_at, turn_keys, turns_of, windows_in}
 use Rattle.rb_script_read.specs.Work.{little}
 use Rattle.rb_script_read.specs.Front.{values_of}
@@ -51,7 +51,7 @@ use Rattle.std.proofs.lemmas.List.{length-map, map_push}
 use Rattle.toml.specs.Parse.{lines, skip_bom, parse_document}
 use Rattle.toml.proofs.Turns.{lines_more, document_some}
 use Rattle.toml_parser.specs.Lexical.{skip_blank}
-use Rattle.rb_script_read.proofs.Forms.{in_sequence-count}
+use Rattle.rb_script_read.proofs.Forms.{in_sequence-count, script-form}
 use Rattle.rb_script_read.proofs.FrontLemmas.{close-values, get-values, put-new}
 
 -- ---- nodes with another value at a key
@@ -455,3 +455,21 @@ text_read text rest after m keys root v done last t c turns end u plain begun so
     let (x, found) = found_member e root (value v) there in
     let count = in_sequence-count (turn c) e opening [] ds (turns, end) read in
     (set_member e (array ds) root, doc ∙ ap Some closed, script-around root ds t c (turns, end) u x tabled made found read (omega arith) light)
+
+-- before the first line of a turn
+pub none_read : (c : Config) (path : List ℕ) (names : Names) (ms : Members) (events : List (Observation Global)) (after : Names) → ms ≡ no_members → events ≡ [] → after ≡ names
+    → AreRead c path names ms no_items events after
+none_read c path names ms events after no_keys no_events same = rw (no_keys, no_events, same) (record { listed = λ gone. refl; read = refl })
+
+-- a turn in an array, whose events these are
+pub turn_closed : (c : Config) (index : ℕ) (reading : Reading) (es : Items) (ms : Members) (path : List ℕ) (x : Turn Global × Reading) → path ≡ element (codes "turn") index
+    → turn c reading (with_events es (record { path = path; members = ms })) ≡ Ok x → turn_at c index reading (table (close (around es ms))) ≡ Ok x
+turn_closed c index reading es ms path x at read =
+    rw (close-around es ms) (turn_is c index reading (set_member (codes "event") (array es) ms)
+    ∙ subst (λ (p : List ℕ). turn c reading (record { path = p; members = set_member (codes "event") (array es) ms }) ≡ Ok x) at read)
+
+-- ---- the script of a text
+
+pub script_of-form : (bytes : List ℕ) (t : Script Global) → script_of bytes ≡ Ok t → IsReadScript t
+unfolding script_of
+script_of-form bytes t h = pass (document bytes) script t h (λ s e read. script-form s t read)
