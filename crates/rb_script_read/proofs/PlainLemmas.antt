@@ -1,5 +1,5 @@
 -- Lemmas on plain scripts: another value at a key, the lines of a document, and tables in sequence.
-use Rattle.std.proofs.Common.{◌≡◌, ◌≢◌, ℕ, suc, ◌+◌, ◌-◌, ◌<◌, ◌≤◌, ◌==◌, nat_le, Bool, true, false, cond, Ordering, Less, Equal, Greater, nat_cmp, is_eq, List, [], ◌∷◌, ◌++◌, length, map, codes, drop, slice_index, Option, Some, None, option_map, Result, Ok, Err, IfOk, inl, inr, ◌⊎◌, refl, sym, ap, subst, ◌∙◌, arith}
+use Rattle.std.proofs.Common.{◌≡◌, ◌≢◌, ℕ, suc, ◌+◌, ◌-◌, ◌<◌, ◌≤◌, ◌==◌, nat_le, Bool, true, false, cond, Ordering, Less, Equal, Greater, nat_cmp, is_eq, List, [], ◌∷◌, ◌++◌, length, map, codes, drop, slice_index, Option, Some, None, option_map, Result, Ok, Err, IfOk, IsUtf8, inl, inr, ◌⊎◌, refl, sym, ap, subst, ◌∙◌, arith}
 use Rattle.std.proofs.lemmas.Bool.{cases_Bool, leb-true, true≢false}
 use Rattle.std.proofs.Common.{le-leb}
 use Rattle.std.proofs.lemmas.Map.Text.{is_eq-slice_cmp}
@@ -20,7 +20,9 @@ use Rattle.rb_script_toml.specs.Faults.{Fault, ◌>>=◌, check}
 use Rattle.rb_script_toml.specs.Fields.{Field, Section, section_at, needs, required, optional, or_default, only, unknown_key, items, items_count, next_in_sequence, in_sequence}
 use Rattle.rb_script_toml.specs.Fields.{time, elements, array as array_of}
 use Rattle.rb_script_toml.specs.KeyPaths.{child, element}
-use Rattle.rb_script_toml.specs.Documents.{document, whole}
+use Rattle.rb_script_toml.specs.Documents.{document, max_bytes, max_marks, whole}
+use Rattle.rb_script_toml.specs.Marks.{marks}
+use Rattle.rb_script_toml.proofs.Documents.{document-parsed}
 use Rattle.rb_script_toml.specs.declared.fault.FaultName.TheVariants.{TooManyEvents, BadWindow}
 use Rattle.rb_script_types.specs.Config.{Config}
 use Rattle.rb_script_types.specs.Limits.{max_chains, max_clients, max_paths, max_turns}
@@ -412,7 +414,7 @@ if_ok (Err e) P Q h f = tt
 -- ---- the document
 
 -- one more turn
-pub turns_push : (c : Config) (done : Items) (last : Nodes) (ts more : List CodeTurn) (t : CodeTurn) (index : ℕ) (reading after : Reading)
+pub turns_push : (c : Config) (done : Items) (last : Nodes) (ts more : List (CodeTurn Global)) (t : CodeTurn Global) (index : ℕ) (reading after : Reading)
     → turns_of c opening done ≡ Ok (map turn_view ts, reading) → index ≡ length ts
     → turn_at c index reading (table (close last)) ≡ Ok (turn_view t, after) → more ≡ ts ++ t ∷ []
     → turns_of c opening (push_item done (table (close last))) ≡ Ok (map turn_view more, after)
@@ -469,6 +471,13 @@ turn_closed c index reading es ms path x at read =
     ∙ subst (λ (p : List ℕ). turn c reading (record { path = p; members = set_member (codes "event") (array es) ms }) ≡ Ok x) at read)
 
 -- ---- the script of a text
+
+pub plain_script : (bytes text : List ℕ) (s : Script Global) → length bytes ≤ max_bytes → marks bytes ≤ max_marks → IsUtf8 bytes → text ≡ bytes
+    → (ms : Members) × (parse_document text ≡ Some ms) × (script (whole ms) ≡ Ok s) → script_of bytes ≡ Ok s
+unfolding script_of
+plain_script bytes text s small few utf8 same read =
+    let (ms, parsed, made) = read in
+    rw (document-parsed bytes ms small few utf8 (rw same at parsed), made)
 
 pub script_of-form : (bytes : List ℕ) (t : Script Global) → script_of bytes ≡ Ok t → IsReadScript t
 unfolding script_of

@@ -85,6 +85,7 @@ fn read_elements<'t>(
         let place = events.len();
         let set = ready_set(alloc, path, place, &element, &mut known);
         let event = read_event_at(path, place, &element, setup, &mut *names, set)?;
+        drop(element);
         events.push(event)?;
         rest = after_element(after, b']')?;
     }
@@ -243,7 +244,7 @@ fn turn_around(
 ) -> Result<NextTurn, NotPlain>
     requires earlier { names.earlier.now ≡ reading.now.names }
     ensures { (ds : Items)
-        → AreRead (setup_view setup.now) (child section.now.path.now (codes "event")) (names_of reading.now.names) (table_view section.now.table.now) ds events.items (names_now names)
+        → AreRead (setup_view setup.now) (child section.now.path.now (codes "event")) (names_of reading.now.names) (table_view section.now.table.now) ds events.items (names_now names.entry)
         → IfOk result (λ n. turn (setup_view setup.now) (reading_view reading.now) (with_events ds (section_view section.now)) ≡ Ok (next_turn_view (reading_view reading.now) n)) }
 {
     let Some(room) = reading.room.checked_sub(events.len()) else {
