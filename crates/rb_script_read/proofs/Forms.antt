@@ -53,7 +53,7 @@ module _ {S A : Type 0} (read : S → Section → Result (A × S) Fault) (P : Li
       in_sequence-keep path x.1 (before ++ x.0 ∷ []) ds all (more before state s x kept r) rest))
 
 module _ {S A : Type 0} (read : S → Section → Result (A × S) Fault) where
-  in_sequence-count : (path : List ℕ) (state : S) (before : List A) (ds : Items) (all : List A × S) → in_sequence read path state before ds ≡ Ok all
+  pub in_sequence-count : (path : List ℕ) (state : S) (before : List A) (ds : Items) (all : List A × S) → in_sequence read path state before ds ≡ Ok all
       → length all.0 ≡ length before + items_count ds
   in_sequence-count path state before no_items all h = omega (arith, ap (λ (x : List A × S). length x.0) (same_ok (before, state) all h))
   in_sequence-count path state before (item d ds) all h =

@@ -3,6 +3,8 @@ pub mod TurnNamesLemmas
 pub mod SetsLemmas
 pub mod ReadyLemmas
 pub mod EventsLemmas
+pub mod FrontLemmas
+pub mod PlainLemmas
 pub mod Forms
 pub mod Early
 pub mod DocumentsLemmas

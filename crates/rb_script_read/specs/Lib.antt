@@ -2,6 +2,7 @@ pub use Rattle.rb_script_types.specs.Config
 pub use Rattle.rb_script_types.specs.Script
 pub use Rattle.rb_script_toml.specs.Faults
 pub mod Names
+pub mod Front
 pub mod TurnNames
 pub mod Sets
 pub mod Ready
@@ -12,3 +13,4 @@ pub mod Turns
 pub mod NextTurns
 pub mod Scripts
 pub mod Laws
+pub mod Plain

@@ -218,7 +218,7 @@ fn read_event(
 }
 
 #[tactic(auto, using(rb_script_toml::proofs::Steps::steps))]
-fn read_event_at(
+pub(crate) fn read_event_at(
     path: &str,
     index: usize,
     value: &Value,

@@ -5,9 +5,11 @@
 
 mod document;
 mod event;
+mod front;
 pub mod laws;
 mod names;
 mod packet;
+mod plain;
 mod ready;
 mod script;
 mod set;

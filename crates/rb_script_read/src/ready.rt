@@ -121,7 +121,7 @@ fn places_of_sets(alloc: Global, events: &[Value]) -> Result<Vec<usize>, AllocEr
     Ok(places)
 }
 
-fn is_set(event: &Value) -> bool {
+pub(crate) fn is_set(event: &Value) -> bool {
     match event.get("kind") {
         Some(kind) => kind.as_str() == Some("set"),
         None => false,
@@ -145,7 +145,7 @@ fn ready_set(
 
 /// The set of the event of this index at a path.
 #[tactic(auto, using(rb_script_toml::proofs::Steps::steps))]
-fn set_at(
+pub(crate) fn set_at(
     alloc: Global,
     path: &str,
     index: usize,

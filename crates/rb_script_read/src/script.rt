@@ -8,6 +8,7 @@ ghost use Rattle.rb_script_read.specs.Turns.{turns_of, reading_view};
 ghost use Rattle.rb_script_config.specs.Setups.{setup_view};
 ghost use Rattle.rb_script_read.specs.Scripts.{script, script_of};
 
+use crate::plain::read_plain;
 use crate::ready::sets_of_turn;
 use crate::turn::{Reading, read_turn_at};
 use crate::work::check_work;
@@ -111,6 +112,9 @@ pub fn read_script(alloc: Global, bytes: &[u8]) -> Result<Script, RunError>
     ensures read { Gives script_view result (script_of bytes.now) }
     ensures form { IfOk result (λ s. IsReadScript (script_view s)) }
 {
+    if let Ok(script) = read_plain(alloc, bytes) {
+        return Ok(script);
+    }
     let table = read_table(alloc, bytes)?;
     read_document(alloc, &table)
 }
@@ -127,6 +131,11 @@ pub fn read_script_by<R: Threads + Sync>(
     ensures read { Gives script_view result (script_of bytes.now) }
     ensures form { IfOk result (λ s. IsReadScript (script_view s)) }
 {
+    if threads <= 1 {
+        if let Ok(script) = read_plain(alloc, bytes) {
+            return Ok(script);
+        }
+    }
     let table = read_table(alloc, bytes)?;
     read_document_by(rt, alloc, &table, threads)
 }

@@ -129,7 +129,7 @@ fn room_after(
 }
 
 #[tactic(auto, using(rb_script_toml::proofs::Steps::steps, rb_script_toml::proofs::Steps::counted), unfolding(crate::specs::Turns::frame))]
-fn read_head<'a>(
+pub(crate) fn read_head<'a>(
     version: Version,
     section: Section<'a>,
     room: usize,

@@ -1,0 +1,34 @@
+use Rattle.std.proofs.Common.{◌≡◌, ◌==◌, ◌-◌, ◌<◌, ◌≤◌, suc, false, length, map, codes, string_bytes, ◌∙◌, arith}
+use Rattle.std.proofs.lemmas.Grind.{common_steps}
+use Rattle.std.proofs.lemmas.List.{length-map}
+use Rattle.toml_parser.specs.Lexical.{first, skip_blank}
+use Rattle.toml.specs.View.{table_view}
+use Rattle.rb_script_types.specs.Limits.{max_turns}
+use Rattle.rb_script_types.specs.Script.{turn_view}
+use Rattle.rb_script_config.specs.Setups.{setup_view}
+use Rattle.rb_script_config.specs.Tables.{tables_view}
+use Rattle.rb_script_read.specs.Front.{values_of}
+use Rattle.rb_script_read.proofs.PlainLemmas.{text_read}
+use Rattle.rb_script_read.proofs.plain.read_text.Goals as goal
+
+pub returns : goal.returns
+returns c =
+    let text = c.args.text.now in
+    let rest = c.in_ok-root.rest.now in
+    let after = c.in_ok-rest.rest.now in
+    let keys = table_view c.in_ok-root.root in
+    let root = table_view c.put.new.table in
+    let turns = map turn_view c.in_ok-turns.turns.items in
+    let plain : (first text == 0xEF) ≡ false = grind (arith, common_steps) in
+    let (m, room, begun) = c.in_ok-root.ensures (suc (length text)) (omega arith) in
+    let named : string_bytes c.in_ok-from_str.field-0 ≡ codes "turn" = grind (arith, common_steps) in
+    let absent = rw named at c.in_ok-put.ensures.absent in
+    let written = rw named at c.in_ok-put.ensures.written in
+    let start_is = c.skip_blank.ensures.rest in
+    let before = c.skip_blank.ensures.within in
+    let shorter : length after < length (skip_blank rest) = rw start_is at c.in_ok-rest.ensures.shorter in
+    let header = rw start_is at c.in_ok-rest.ensures.header in
+    let (done, last, end, ended, read) = c.in_ok-turns.ensures (values_of keys) (m - 1) (omega arith) in
+    let few : length turns ≤ max_turns = ? in
+    rw c.into_config.ensures (text_read text rest after m keys root _ done last (tables_view c.in_ok-tables.tables) (setup_view c.in_ok-setup.setup) turns end tt plain begun (omega arith) shorter
+    absent written header ended read c.in_ok-tables.ensures c.in_ok-setup.ensures few (rw c.into_config.ensures at c.in_ok-check_work.ensures))
