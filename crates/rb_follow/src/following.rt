@@ -1,5 +1,5 @@
 //! Following an input to its end.
-ghost use Rattle.std.specs.Prelude.{◌≡◌, ◌≤◌, ◌++◌, ◌∷◌, ◌↔◌, ◌⊎◌, List, ℕ, [], true, false, Err, IfOk, IfErr, IfSome, OnOk, OnErr, IsErrOf};
+ghost use Rattle.std.specs.Prelude.{◌≡◌, ◌≤◌, ◌++◌, ◌∷◌, ◌↔◌, ◌⊎◌, List, ℕ, [], true, false, Ok, Err, IfOk, IfErr, IfSome, OnOk, OnErr, IsErrOf};
 ghost use Rattle.std.specs.Io.KnownBytes.{Appends};
 ghost use Rattle.rb_base.specs.Sink.{AppendsBeginning};
 ghost use Rattle.rb_script_config.specs.Paths.{path_ids};
@@ -11,7 +11,7 @@ ghost use Rattle.rb_follow.specs.Documents.{nothing_read, all_read, document, do
 ghost use Rattle.rb_follow.specs.Answers.{answer_view, answer_text, head_text, end_text};
 ghost use Rattle.rb_follow.specs.Journals.{StoresAll, accepted, outs};
 ghost use Rattle.rb_follow.specs.Views.{following};
-ghost use Rattle.rb_follow.specs.Headline.{Told, ToldPiece, BeginsTelling, IsFollowError, Follows, BeginsFollowing};
+ghost use Rattle.rb_follow.specs.Headline.{Told, ToldPiece, BeginsTelling, IsFollowError, Follows, BeginsFollowing, GoesOn};
 
 use crate::answer::{Answer, Refusal};
 use crate::error::FollowError;
@@ -139,6 +139,37 @@ where
     }
 }
 
+/// Begins a long journal anew, where the follower forgot, or ends it. Who has written the document that comes had all
+/// answers to those before.
+fn renew<R, G, J>(
+    crew: &Crew<R, G>,
+    follower: Follower<G>,
+    journal: &mut J,
+) -> Result<Follower<G>, FollowError>
+where
+    R: Threads + Wait + Copy + Send + Sync + 'static,
+    G: Gate + Send + Sync + Drop + 'static,
+    J: Journal,
+    ensures same { IfOk result (λ g. g ≡ follower) }
+    ensures kept { J.documents journal.new ≡ J.documents journal.old }
+    ensures failed { IfErr result (λ e. IsFollowError e false) }
+{
+    if !follower.is_tidy() || !journal.is_long() {
+        return Ok(follower);
+    }
+    let renewed = match follower.state() {
+        Ok(Some(state)) => journal.renew(Some(state.as_str())),
+        Ok(None) | Err(_) => journal.renew(None),
+    };
+    match renewed {
+        Ok(()) => Ok(follower),
+        Err(error) => {
+            follower.stop(crew.rt());
+            Err(FollowError::Journal(error))
+        }
+    }
+}
+
 /// Answers the document that was gathered, after the journal has it.
 fn answer_document<R, G, W, N, J>(
     crew: &Crew<R, G>,
@@ -162,6 +193,7 @@ where
     ensures begun { OnErr result (BeginsTelling teller.now.form (following follower) (document (all_read gathering.old) ∷ []) (outs (W.taken writer.old) (J.documents journal.old)) (outs (W.taken writer.new) (J.documents journal.new))) }
 {
     let document = gathering.document();
+    let follower = renew(crew, follower, journal)?;
     let (follower, answer) = follower.answer(crew, document)?;
     let stored = store(crew, follower, &answer, document, journal)?;
     gathering.clear();
@@ -405,6 +437,71 @@ where
 {
     let crew = Crew::new(rt, workers, &**gate);
     let follower = Follower::new(rt, alloc, setup, workers, gate)?;
+    let follower = begin(rt, follower, form, writer)?;
+    let teller = Teller {
+        alloc,
+        form,
+        watcher,
+    };
+    let follower = answer_all(&crew, follower, input, &teller, journal, writer)?;
+    follower.stop(rt);
+    put_end(form, writer)?;
+    Ok(())
+}
+
+/// The follower that goes on from a state of a journal.
+fn restored<R, G>(
+    rt: &R,
+    alloc: Global,
+    setup: &[u8],
+    state: &str,
+    workers: usize,
+    gate: &Arc<G, Global>,
+) -> Result<Follower<G>, FollowError>
+where
+    R: Threads + Wait + Copy + Send + Sync + 'static,
+    G: Gate + Send + Sync + Drop + 'static,
+    requires { workers ≤ 64 }
+    ensures set_up { IfOk result (λ f. setup_of setup.now ≡ Ok (following f).config) }
+    ensures failed { IfErr result (λ e. IsFollowError e false) }
+{
+    match Follower::restored(rt, alloc, setup, state, workers, gate)? {
+        Some(follower) => Ok(follower),
+        None => Err(FollowError::Journal(io::Error::new(
+            io::ErrorKind::InvalidData,
+            "its state is none of this setup",
+        ))),
+    }
+}
+
+/// As `follow_over`, by a follower that goes on from a state that a journal tells; `Journal` where it is none of this
+/// setup, and nothing is then written.
+pub fn follow_on<R, G, I, W, N, J>(
+    rt: &R,
+    alloc: Global,
+    setup: &[u8],
+    state: &str,
+    input: &mut I,
+    form: Form,
+    writer: &mut W,
+    workers: usize,
+    gate: &Arc<G, Global>,
+    watcher: &N,
+    journal: &mut J,
+) -> Result<(), FollowError>
+where
+    R: Threads + Wait + Copy + Send + Sync + 'static,
+    G: Gate + Send + Sync + Drop + 'static,
+    I: Read,
+    W: Sink,
+    N: Watcher,
+    J: Journal,
+    requires works { W.is_broken writer.old ≡ false }
+    requires workers { workers ≤ 64 }
+    ensures followed { OnOk result (IfSome (I.remaining input.old) (λ bytes. GoesOn form setup.now bytes (outs (W.taken writer.old) (J.documents journal.old)) (outs (W.taken writer.new) (J.documents journal.new)))) }
+{
+    let crew = Crew::new(rt, workers, &**gate);
+    let follower = restored(rt, alloc, setup, state, workers, gate)?;
     let follower = begin(rt, follower, form, writer)?;
     let teller = Teller {
         alloc,

@@ -15,6 +15,15 @@ pub trait Journal {
     fn store(&mut self, document: &[u8]) -> io::Result<()>
         ensures stored { OnOk result (Stores (documents self.old) (documents self.new) document.now) }
         ensures same { OnErr result (documents self.new ≡ documents self.old) };
+
+    /// Whether it is so long that it is to be begun anew.
+    fn is_long(&mut self) -> bool
+        ensures { documents self.new ≡ documents self.old };
+
+    /// Begins anew with the state that its documents lead to, in place of these; it stays as it is where there is
+    /// none. After an error the journal must not be called again.
+    fn renew(&mut self, state: Option<&str>) -> io::Result<()>
+        ensures { documents self.new ≡ documents self.old };
 }
 
 /// No journal: nothing is stored.
@@ -27,6 +36,14 @@ impl Journal for NoJournal {
     ghost documents = { λ _. None };
 
     fn store(&mut self, _document: &[u8]) -> io::Result<()> {
+        Ok(())
+    }
+
+    fn is_long(&mut self) -> bool {
+        false
+    }
+
+    fn renew(&mut self, _state: Option<&str>) -> io::Result<()> {
         Ok(())
     }
 }
