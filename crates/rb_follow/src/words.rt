@@ -1,7 +1,7 @@
 //! Values as words of a text: each stands behind a blank or a line feed.
 use hex::FromHex;
 use rb_script_types::Config;
-use std::alloc::{AllocError, Global};
+use std::alloc::{AllocError, AllocFailed, Global};
 use std::collections::BTreeMap;
 use std::str::SplitAsciiWhitespace;
 
@@ -18,6 +18,14 @@ impl From<AllocError> for Unread {
     ghost from_gives = { λ _ _. Unit {0} };
 
     fn from(_error: AllocError) -> Unread {
+        Unread::NoMemory
+    }
+}
+
+impl<T: Drop> From<AllocFailed<T>> for Unread {
+    ghost from_gives = { λ _ _. Unit {0} };
+
+    fn from(_error: AllocFailed<T>) -> Unread {
         Unread::NoMemory
     }
 }
