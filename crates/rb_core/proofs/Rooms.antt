@@ -1,5 +1,5 @@
 -- The room of what the code holds is the room that a contract sees.
-use Rattle.std.proofs.Common.{◌≡◌, ℕ, zero, suc, ◌-◌, ◌<◌, ◌≤◌, Bool, true, List, [], ◌∷◌, None, Result, Ok, Err, IfOk, IsSomeAnd, All, length, map, refl, sym, ap, ◌∙◌, subst, arith}
+use Rattle.std.proofs.Common.{◌≡◌, ℕ, zero, suc, ◌-◌, ◌<◌, ◌≤◌, Bool, true, List, [], ◌∷◌, None, Result, Ok, Err, IfOk, IsSomeAnd, All, length, map, refl, sym, ap, ◌∙◌, subst, inl, arith}
 use Rattle.std.specs.List.{slice_get}
 use Rattle.std.specs.Option.{option_and_then}
 use Rattle.std.proofs.lemmas.List.Elements.{All-nil}
@@ -153,7 +153,7 @@ new_fold config s xs rules fees state none =
     let first : IsFold config (from_nothing []) s = record {
       state = state;
       set_up = record { rules = rules; fees = fees };
-      begun = record { earlier = []; events = All-nil (All IsEvent); is = refl; few = All-nil (λ (x : ClientSnapshot). x.batches ≤ max_begun) };
+      begun = record { first = nothing; fits = inl refl; earlier = []; events = All-nil (All IsEvent); is = refl; few = All-nil (λ (x : ClientSnapshot). x.batches ≤ max_begun) };
       events = All-nil IsEvent;
       accepted = refl;
     } in
