@@ -125,7 +125,7 @@ impl<R: Host> Journal for LongJournal<'_, R> {
     /// Not again before it is twice as long.
     fn is_long(&mut self) -> bool {
         let stored = &self.stored;
-        if !stored.digests || !stored.past.as_slice().is_empty() {
+        if !stored.digests || stored.past.len() > 0 {
             return false;
         }
         match stored.file.metadata() {

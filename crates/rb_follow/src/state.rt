@@ -47,7 +47,7 @@ pub(crate) fn read_state(alloc: Global, config: Config, text: &str) -> Result<St
     if again.as_str() != text {
         return Err(Unread::Wrong);
     }
-    match Core::restored(alloc, config, snapshot)? {
+    match Core::restored(alloc, config, &snapshot)? {
         Some(core) => Ok(State {
             core,
             reading,
