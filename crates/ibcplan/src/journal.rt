@@ -14,7 +14,7 @@ use rb_script_toml::RunError;
 use std::alloc::Global;
 use std::fs::{File, OpenFile, OpenOptions, TryLockError, rename};
 use std::io;
-use std::io::{Read, Write};
+use std::io::{Read, Seek, SeekFrom, Write};
 use std::mem;
 use std::vec::IntoIter;
 
@@ -73,43 +73,72 @@ pub struct LongJournal<'a, R> {
     path: &'a str,
     opening: Vec<u8>,
     stored: FileJournal<File>,
-    /// From which length on it is tried to begin it anew.
+    /// From which length on it is begun anew, if there is a state.
     long: u64,
-    /// The file before, which stays locked: who had opened it before the name went to another finds it in use.
+    next: Option<Beginning>,
+    /// The file before, which stays locked: who had opened it before its name went to another finds it in use.
     before: Option<File>,
 }
 
+/// What a journal is to begin with anew: the part of a state, the batches that are open in it, by client, and how long the
+/// file was then.
+#[derive(Drop)]
+struct Beginning {
+    part: String,
+    batches: Vec<u64>,
+    length: u64,
+}
+
 impl<R: Host> LongJournal<'_, R> {
-    /// Writes a state and the setup to a file of this name, which takes the place of this one, if that is twice as long.
-    fn made_anew(&mut self, state: &str, name: &str) -> io::Result<Option<File>> {
+    /// What it can begin with anew, if it is then half as long at most.
+    fn beginning(&mut self, state: &str, batches: Vec<u64>) -> io::Result<Option<Beginning>> {
         let Ok(part) = state_part(self.rt.alloc(), state) else {
             return Err(io::Error::from(io::ErrorKind::OutOfMemory));
         };
-        let length = part.len().saturating_add(self.opening.len());
-        let long = (length as u64).saturating_mul(2);
-        if self.stored.file.metadata()?.len() < long {
-            self.long = long;
+        let length = self.stored.file.metadata()?.len();
+        self.long = twice(part.len(), self.opening.len());
+        if length < self.long {
             return Ok(None);
         }
+        Ok(Some(Beginning {
+            part,
+            batches,
+            length,
+        }))
+    }
+
+    /// Writes a file that takes the place of this one: a state, the setup, and the turns after the state.
+    fn put(&mut self, next: &Beginning) -> io::Result<File> {
+        let Ok(name) = format!(in self.rt.alloc(); "{}.new", self.path) else {
+            return Err(io::Error::from(io::ErrorKind::OutOfMemory));
+        };
         let mut options = OpenOptions::new();
         options.read(true).append(true).create(true);
-        let mut file = options.open(&self.rt, name)?;
+        let mut file = options.open(&self.rt, name.as_str())?;
         if file.try_lock().is_err() {
             return Err(io::Error::new(io::ErrorKind::Other, "another process has it"));
         }
+        self.stored.file.seek(SeekFrom::Start(next.length))?;
+        let turns = content(self.rt.alloc(), &mut self.stored.file)?;
         file.set_len(0)?;
-        file.write_all(part.as_bytes())?;
+        file.write_all(next.part.as_bytes())?;
         file.write_all(self.opening.as_slice())?;
+        file.write_all(turns.as_slice())?;
         file.sync_all()?;
-        rename(&self.rt, name, self.path)?;
-        self.long = long;
-        Ok(Some(file))
+        rename(&self.rt, name.as_str(), self.path)?;
+        Ok(file)
     }
 
     /// Goes on with the file that took the place of the one before.
     fn go_on(&mut self, file: File) -> io::Result<()> {
         self.before = Some(mem::replace(&mut self.stored.file, file));
         File::open(&self.rt, folder_of(self.path))?.sync_all()
+    }
+
+    /// Tells why it isn't begun anew.
+    fn tell(&self, error: &io::Error) {
+        let shown = Shown { name: self.path };
+        let _ = eprintln!(&self.rt; "{shown}: not begun anew: {error}");
     }
 }
 
@@ -125,7 +154,7 @@ impl<R: Host> Journal for LongJournal<'_, R> {
     /// Not again before it is twice as long.
     fn is_long(&mut self) -> bool {
         let stored = &self.stored;
-        if !stored.digests || stored.past.len() > 0 {
+        if self.next.is_some() || !stored.digests || stored.past.len() > 0 {
             return false;
         }
         match stored.file.metadata() {
@@ -137,24 +166,38 @@ impl<R: Host> Journal for LongJournal<'_, R> {
         }
     }
 
-    fn renew(&mut self, state: Option<&str>) -> io::Result<()> {
-        let shown = Shown { name: self.path };
-        let Ok(name) = format!(in self.rt.alloc(); "{}.new", self.path) else {
-            return Ok(());
-        };
-        let made = match state {
-            Some(state) => self.made_anew(state, name.as_str()),
+    fn remember(&mut self, state: Option<&str>, batches: Vec<u64>) {
+        let next = match state {
+            Some(state) => self.beginning(state, batches),
             None => Err(io::Error::new(io::ErrorKind::InvalidData, "its state can't be written")),
         };
-        match made {
-            Ok(Some(file)) => self.go_on(file),
-            Ok(None) => Ok(()),
+        match next {
+            Ok(next) => self.next = next,
+            Err(error) => self.tell(&error),
+        }
+    }
+
+    fn batches(&self) -> Option<&[u64]> {
+        Some(self.next.as_ref()?.batches.as_slice())
+    }
+
+    fn renew(&mut self) -> io::Result<()> {
+        let Some(next) = self.next.take() else {
+            return Ok(());
+        };
+        match self.put(&next) {
+            Ok(file) => self.go_on(file),
             Err(error) => {
-                let _ = eprintln!(&self.rt; "{shown}: not begun anew: {error}");
+                self.tell(&error);
                 Ok(())
             }
         }
     }
+}
+
+/// Twice as many bytes as both are.
+fn twice(part: usize, opening: usize) -> u64 {
+    (part.saturating_add(opening) as u64).saturating_mul(2)
 }
 
 /// A document without the number that it may begin with: a turn of a script has none.
@@ -404,24 +447,28 @@ fn settled<'a, R: Host>(
     if let Err(error) = settle(rt, path, &file) {
         return Err(failed(path, error, UNWRITTEN));
     }
-    let begun = state.as_ref().map_or(0, |state| state.len()) + opening.len();
+    let length = match &state {
+        Some(state) => state.len(),
+        None => 0,
+    };
     match (
         Vec::from_slice(alloc, opening),
         Vec::from_slice(alloc, opening),
         input_of(alloc, documents.as_slice()),
     ) {
-        (Ok(setup), Ok(opening), Ok(past)) => Ok(OpenedJournal {
+        (Ok(setup), Ok(begun), Ok(past)) => Ok(OpenedJournal {
             journal: LongJournal {
                 rt: *rt,
                 path,
-                opening,
+                opening: begun,
                 stored: FileJournal {
                     alloc,
                     file,
                     digests,
                     past: documents.into_iter(),
                 },
-                long: (begun as u64).saturating_mul(2),
+                long: twice(length, opening.len()),
+                next: None,
                 before: None,
             },
             state,

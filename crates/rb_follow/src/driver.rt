@@ -96,6 +96,18 @@ impl<G: Gate + Send + Sync + Drop + 'static> Driver<G> {
         }
     }
 
+    /// The number of the open batch of a client; 0 where none is open.
+    pub fn open_batch(&self, client: usize) -> u64 {
+        let batch = match self {
+            Driver::Alone(supervisor) => supervisor.core().open_batch(client),
+            Driver::WithWorkers(supervisor) => supervisor.open_batch(client),
+        };
+        match batch {
+            Some(batch) => batch.number(),
+            None => 0,
+        }
+    }
+
     /// Leads the relayer through a turn; tells its report. An error comes only where a growth is refused, also
     /// to a worker; all workers have then ended.
     pub fn turn<R: Threads + Sync + Wait>(

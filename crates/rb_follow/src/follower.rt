@@ -277,6 +277,25 @@ impl<G: Gate + Send + Sync + Drop + 'static> Follower<G> {
         }
     }
 
+    /// The numbers of the open batches, by client; 0 where none is open.
+    pub(crate) fn open_batches(&self) -> Result<Vec<u64>, AllocError> {
+        let mut batches = Vec::new(self.alloc);
+        for client in 0..self.setup.clients.as_slice().len() {
+            batches.push(self.driver.open_batch(client))?;
+        }
+        Ok(batches)
+    }
+
+    /// Whether one of these batches is still open.
+    pub(crate) fn has_open(&self, batches: &[u64]) -> bool {
+        for (client, batch) in batches.iter().enumerate() {
+            if *batch != 0 && *batch == self.driver.open_batch(client) {
+                return true;
+            }
+        }
+        false
+    }
+
     /// The version of the setup.
     pub fn version(&self) -> Version
         ensures { result ≡ (following self.now).config.version }

@@ -23,7 +23,7 @@ use crate::told::{Form, head, put, put_told};
 use rb_base::{Gate, Sink};
 use rb_script_toml::{Fault, FaultName, RunError, fault_at};
 use rb_super_turn::Crew;
-use std::alloc::Global;
+use std::alloc::{AllocError, Global};
 use std::io;
 use std::io::Read;
 use std::sync::{Arc, Wait};
@@ -139,8 +139,39 @@ where
     }
 }
 
-/// Begins a long journal anew, where the follower forgot, or ends it. Who has written the document that comes had all
-/// answers to those before.
+/// Lets a long journal remember the state of a follower that has forgotten something. The document that comes was written
+/// by who had the answers to those before.
+fn remember<G, J>(follower: &Follower<G>, journal: &mut J) -> Result<(), AllocError>
+where
+    G: Gate + Send + Sync + Drop + 'static,
+    J: Journal,
+    ensures { J.documents journal.new ≡ J.documents journal.old }
+{
+    if !follower.is_tidy() || !journal.is_long() {
+        return Ok(());
+    }
+    let batches = follower.open_batches()?;
+    match follower.state()? {
+        Some(state) => journal.remember(Some(state.as_str()), batches),
+        None => journal.remember(None, batches),
+    }
+    Ok(())
+}
+
+/// Whether a journal remembers a state, and no batch is open any more that is open in it.
+fn is_answered<G, J>(follower: &Follower<G>, journal: &J) -> bool
+where
+    G: Gate + Send + Sync + Drop + 'static,
+    J: Journal,
+{
+    match journal.batches() {
+        Some(batches) => !follower.has_open(batches),
+        None => false,
+    }
+}
+
+/// Begins a journal anew with the state that it remembers, once none of the batches is open that are open in it: so the
+/// journal's turns have the answers to all open batches. Or ends the follower.
 fn renew<R, G, J>(
     crew: &Crew<R, G>,
     follower: Follower<G>,
@@ -154,14 +185,10 @@ where
     ensures kept { J.documents journal.new ≡ J.documents journal.old }
     ensures failed { IfErr result (λ e. IsFollowError e false) }
 {
-    if !follower.is_tidy() || !journal.is_long() {
+    if remember(&follower, journal).is_err() || !is_answered(&follower, journal) {
         return Ok(follower);
     }
-    let renewed = match follower.state() {
-        Ok(Some(state)) => journal.renew(Some(state.as_str())),
-        Ok(None) | Err(_) => journal.renew(None),
-    };
-    match renewed {
+    match journal.renew() {
         Ok(()) => Ok(follower),
         Err(error) => {
             follower.stop(crew.rt());

@@ -16,13 +16,21 @@ pub trait Journal {
         ensures stored { OnOk result (Stores (documents self.old) (documents self.new) document.now) }
         ensures same { OnErr result (documents self.new ≡ documents self.old) };
 
-    /// Whether it is so long that it is to be begun anew.
+    /// Whether it is so long that it is to remember a state, by which it can be begun anew.
     fn is_long(&mut self) -> bool
         ensures { documents self.new ≡ documents self.old };
 
-    /// Begins anew with the state that its documents lead to, in place of these; it stays as it is where there is
-    /// none. After an error the journal must not be called again.
-    fn renew(&mut self, state: Option<&str>) -> io::Result<()>
+    /// Remembers a state that its documents lead to, if there is one, and the numbers of the batches that are open in it, by
+    /// client; 0 where none is.
+    fn remember(&mut self, state: Option<&str>, batches: Vec<u64>)
+        ensures { documents self.new ≡ documents self.old };
+
+    /// The batches that are open in the state that it remembers.
+    fn batches(&self) -> Option<&[u64]>;
+
+    /// Begins anew with that state in place of the documents that led to it. After an error the journal must not be called
+    /// again.
+    fn renew(&mut self) -> io::Result<()>
         ensures { documents self.new ≡ documents self.old };
 }
 
@@ -43,7 +51,13 @@ impl Journal for NoJournal {
         false
     }
 
-    fn renew(&mut self, _state: Option<&str>) -> io::Result<()> {
+    fn remember(&mut self, _state: Option<&str>, _batches: Vec<u64>) {}
+
+    fn batches(&self) -> Option<&[u64]> {
+        None
+    }
+
+    fn renew(&mut self) -> io::Result<()> {
         Ok(())
     }
 }

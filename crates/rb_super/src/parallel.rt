@@ -7,7 +7,8 @@ ghost use Rattle.rb_core_model.specs.Forgetting.{floors_of, has_many_to_forget, 
 ghost use Rattle.rb_core_model.specs.Over.{firsts_of};
 ghost use Rattle.rb_core.specs.Snapshot.{snapshot_view};
 ghost use Rattle.rb_core_model.specs.Snapshot.{from_nothing, snapshot_of};
-ghost use Rattle.rb_core_model.specs.Standing.{goes_back};
+ghost use Rattle.std.specs.Option.{option_copied};
+ghost use Rattle.rb_core_model.specs.Standing.{batch_open, goes_back};
 ghost use Rattle.rb_super_turn.specs.Turns.{hosts_back, before_plans, refusals_in, IsTurnReport, after_turn};
 ghost use Rattle.rb_script_types.specs.declared.script.HostWindow.{HostWindow as WindowOf};
 ghost use Rattle.rb_super_turn.specs.Phases.{standing_in, HasLogRoom, IsLater, turn_heard, IsAllScanned, IsPlannable, AreReported};
@@ -20,6 +21,7 @@ use crate::orders::{order_plans, order_scans};
 use rb_base::{Gate, Window};
 use rb_board::{Desk, open};
 use rb_core::{Core, Snapshot};
+use rb_core_state::OpenBatch;
 use rb_script_types::{Asked, Config, HostWindow, Observation, Turn};
 use rb_super_turn::{
     ClientReport, Crew, Heard, Relayer, TurnReport, hear_all, no_tables, plan_all, scan_all,
@@ -328,6 +330,13 @@ impl<G: Gate + Send + Sync + Drop + 'static> ParallelSupervisor<G> {
         ensures { config_view result.now ≡ self.now.config }
     {
         self.relayer.config()
+    }
+
+    /// The open batch of a client, as `Core::open_batch`.
+    pub fn open_batch(&self, client: usize) -> Option<&OpenBatch>
+        ensures { option_copied result ≡ batch_open (standing_in self.now) client }
+    {
+        self.relayer.open_batch(client)
     }
 
     /// What a relayer goes on from, as `Core::snapshot`.
