@@ -31,6 +31,7 @@ impl<T: Drop> From<AllocFailed<T>> for Unread {
 }
 
 /// The words of a text that are still to be read, and how the relayer is configured whose they are.
+#[derive(Drop)]
 pub(crate) struct Words<'a> {
     pub alloc: Global,
     pub config: &'a Config,
