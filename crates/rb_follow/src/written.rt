@@ -124,38 +124,49 @@ impl Written for RecordAt {
     }
 }
 
-impl Written for Vote {
-    fn write(&self, text: &mut String) -> Result<(), AllocError> {
-        text.push_str(match self {
-            Vote::Commit => " C",
-            Vote::Nil => " N",
-            Vote::Absent => " A",
-            Vote::Bad => " B",
-        })
+/// Adds the votes of a header as one word, as in an event.
+fn write_votes(text: &mut String, votes: &[Vote]) -> Result<(), AllocError> {
+    text.push_str(" ")?;
+    for vote in votes {
+        text.push_str(match vote {
+            Vote::Commit => "C",
+            Vote::Nil => "N",
+            Vote::Absent => "A",
+            Vote::Bad => "B",
+        })?;
     }
-
-    fn read(words: &mut Words<'_>) -> Result<Vote, Unread> {
-        match words.word()? {
-            "C" => Ok(Vote::Commit),
-            "N" => Ok(Vote::Nil),
-            "A" => Ok(Vote::Absent),
-            _ => Err(Unread::Wrong),
-        }
-    }
+    Ok(())
 }
 
-impl Written for Header {
-    fn write(&self, text: &mut String) -> Result<(), AllocError> {
-        RecordAt::new(self.height(), *self.record()).write(text)?;
-        self.set_hash().write(text)?;
-        write_all(text, self.votes())
+fn read_votes(words: &mut Words<'_>) -> Result<Vec<Vote>, Unread> {
+    let mut votes = Vec::new(words.alloc);
+    for letter in words.word()?.as_bytes() {
+        votes.push(match *letter {
+            b'C' => Vote::Commit,
+            b'N' => Vote::Nil,
+            b'A' => Vote::Absent,
+            _ => return Err(Unread::Wrong),
+        })?;
     }
+    Ok(votes)
+}
 
-    fn read(words: &mut Words<'_>) -> Result<Header, Unread> {
-        let known = words.read::<RecordAt>()?;
-        let set = words.read::<[u8; 32]>()?;
-        let votes = words.read::<Vec<Vote>>()?;
-        Ok(Header::new(known.height(), *known.record(), set, votes))
+/// Adds a header, but for its record.
+fn write_header(text: &mut String, header: &Header) -> Result<(), AllocError> {
+    text.push_str("\n")?;
+    header.height().write(text)?;
+    header.set_hash().write(text)?;
+    write_votes(text, header.votes())
+}
+
+/// Reads a header, whose record a book has.
+fn read_header(words: &mut Words<'_>, book: &ChainBook) -> Result<Header, Unread> {
+    let height = words.read::<Height>()?;
+    let set = words.read::<[u8; 32]>()?;
+    let votes = read_votes(words)?;
+    match book.record(height) {
+        Some(known) => Ok(Header::new(height, *known, set, votes)),
+        None => Err(Unread::Wrong),
     }
 }
 
@@ -224,8 +235,12 @@ impl Written for SharedBook {
     fn write(&self, text: &mut String) -> Result<(), AllocError> {
         let book = self.book();
         write_all(text, book.sets())?;
-        write_all(text, book.headers())?;
-        write_all(text, book.records())
+        write_all(text, book.records())?;
+        book.headers().len().write(text)?;
+        for header in book.headers() {
+            write_header(text, header)?;
+        }
+        Ok(())
     }
 
     fn read(words: &mut Words<'_>) -> Result<SharedBook, Unread> {
@@ -233,11 +248,12 @@ impl Written for SharedBook {
         for set in words.read::<Vec<ValidatorSet>>()? {
             book.add_set(set)?;
         }
-        for header in words.read::<Vec<Header>>()? {
-            book.add_header(header)?;
-        }
         for known in words.read::<Vec<RecordAt>>()? {
             book.add_record(known.height(), *known.record())?;
+        }
+        for _ in 0..words.read::<usize>()? {
+            let header = read_header(words, &book)?;
+            book.add_header(header)?;
         }
         Ok(SharedBook::new(words.alloc, book)?)
     }
