@@ -26,7 +26,10 @@ use std::sync::Arc;
 /// The most batches that a client may have opened where a core begins anew.
 const MAX_BEGUN: u64 = 1 << 62;
 
-pub(crate) fn new_plans<A: Allocator + Copy>(alloc: A, clients: usize) -> Result<Vec<usize, A>, AllocError>
+pub(crate) fn new_plans<A: Allocator + Copy>(
+    alloc: A,
+    clients: usize,
+) -> Result<Vec<usize, A>, AllocError>
     ensures { IfOk result (λ plans. plans.items ≡ replicate clients 0) }
 {
     let mut plans = Vec::with_capacity(alloc, clients)?;
@@ -36,7 +39,10 @@ pub(crate) fn new_plans<A: Allocator + Copy>(alloc: A, clients: usize) -> Result
     Ok(plans)
 }
 
-pub(crate) fn new_scans<A: Allocator + Copy>(alloc: A, paths: usize) -> Result<Vec<Scans<A>, A>, AllocError>
+pub(crate) fn new_scans<A: Allocator + Copy>(
+    alloc: A,
+    paths: usize,
+) -> Result<Vec<Scans<A>, A>, AllocError>
     ensures { IfOk result (λ scans. scans.items ≡ replicate paths no_scans) }
 {
     let mut scans = Vec::with_capacity(alloc, paths)?;

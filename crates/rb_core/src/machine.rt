@@ -3,9 +3,10 @@ ghost use Rattle.std.specs.Prelude.{◌≡◌, ◌∷◌, [], All, length, Some,
 ghost use Rattle.std.specs.Option.{option_copied};
 ghost use Rattle.rb_script_types.specs.Config.{config_view, IsConfig};
 ghost use Rattle.rb_core_model.specs.Config.{IsSetUp};
-ghost use Rattle.rb_core.specs.Core.{state_in, refusal_in, IsReady};
+ghost use Rattle.rb_core.specs.Core.{state_in, refusal_in, IsFold, IsReady};
 ghost use Rattle.rb_core.specs.Follower.{IsOfLog, log_in};
 ghost use Rattle.rb_core.specs.Snapshot.{snapshot_view};
+ghost use Rattle.rb_core.specs.State.{standing_view, state_view};
 ghost use Rattle.rb_core_model.specs.Begun.{IsBegun};
 ghost use Rattle.rb_core_model.specs.Entry.{log_from};
 ghost use Rattle.rb_core_model.specs.Event.{IsEvent};
@@ -109,14 +110,7 @@ impl<A: Allocator + Copy> Core<A> {
             return Ok(None);
         };
         fee_tables(config.clients.as_slice());
-        let begun = Arc::new(alloc, copy_state(alloc, &state)?)?;
-        Ok(Some(Core {
-            alloc,
-            config,
-            begun: Some(begun),
-            state,
-            log: Vec::new(alloc),
-        }))
+        Ok(Some(Core::begun_in(alloc, config, state)?))
     }
 
     /// What is known. The books are shared. `AllocError` where memory is refused, or a book has as many owners
@@ -197,6 +191,15 @@ impl<A: Allocator + Copy> Core<A> {
             ..
         } = self;
         let state = anew(alloc, &config, state)?;
+        Core::begun_in(alloc, config, state)
+    }
+
+    /// A core whose log begins with what is known in a state.
+    fn begun_in(alloc: A, config: Config<A>, state: CoreState<A>) -> Result<Core<A>, AllocError>
+        requires { IsFold (config_view config) (record { start = snapshot_of (standing_view state); events = [] }) (state_view state) }
+        ensures config { IfOk result (λ core. core.config ≡ config_view config) }
+        ensures log { IfOk result (λ core. core.log ≡ record { start = snapshot_of (standing_view state); events = [] }) }
+    {
         let begun = Arc::new(alloc, copy_state(alloc, &state)?)?;
         Ok(Core {
             alloc,

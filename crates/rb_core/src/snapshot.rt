@@ -13,9 +13,7 @@ use crate::state::CoreState;
 use rb_base::Window;
 use rb_book::SharedBook;
 use rb_core_state::books::share_books;
-use rb_core_state::snapshot::{
-    client_snapshots, path_snapshots, restored_clients, restored_paths,
-};
+use rb_core_state::snapshot::{client_snapshots, path_snapshots, restored_clients, restored_paths};
 use rb_core_state::{ClientSnapshot, PathSnapshot};
 use rb_script_types::Config;
 use std::alloc::{AllocError, Allocator, Global};

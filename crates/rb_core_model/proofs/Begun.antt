@@ -83,6 +83,7 @@ client_fits s client k tracks fees is = record {
   where
     book : Book
     book = book_at s.books k.config.tracks
+
     batch : (b : OpenBatch) → k.batch ≡ Some b → FitsBatch s client book b
     batch b e = subst (λ o. IfSome o (FitsBatch s client book)) e is.batch
 

@@ -329,7 +329,7 @@ impl<A: Allocator + Copy> ClientState<A> {
         ensures { IfOk result (λ known. known_client known ≡ snapshot_of_client self.now.client) }
     {
         Ok(ClientSnapshot {
-            window: self.window,
+            window: self.own_window(),
             stored: Vec::from_slice(*self.stored.allocator(), self.stored.as_slice())?,
             asked: self.asked,
             batches: self.batches,
