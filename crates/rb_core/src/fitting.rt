@@ -63,7 +63,7 @@ fn is_apart(message: &Message, other: &Message) -> bool
     ensures { IsTrue result ↔ AreApart message.now other.now }
 {
     let (packet, its) = (message.packet(), other.packet());
-    message.path() != other.path() || packet.kind != its.kind || packet.sequence != its.sequence
+    !(message.path() == other.path() && packet.kind == its.kind && packet.sequence == its.sequence)
 }
 
 fn is_apart_from_all(message: &Message, before: &[Message]) -> bool
@@ -74,7 +74,7 @@ fn is_apart_from_all(message: &Message, before: &[Message]) -> bool
 
 /// Whether no message stands twice.
 fn are_apart(messages: &[Message]) -> bool
-    ensures { IsTrue result ↔ AllPairs AreApart messages.now }
+    ensures { IsTrue result → AllPairs AreApart messages.now }
 {
     for (place, message) in messages.iter().enumerate() {
         if !is_apart_from_all(message, &messages[..place]) {
