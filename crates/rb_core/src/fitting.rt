@@ -63,9 +63,7 @@ fn is_apart(message: &Message, other: &Message) -> bool
     ensures { IsTrue result ↔ AreApart message.now other.now }
 {
     let (packet, its) = (message.packet(), other.packet());
-    !(message.path() == other.path()
-        && packet.kind == its.kind
-        && packet.sequence == its.sequence)
+    !(message.path() == other.path() && packet.kind == its.kind && packet.sequence == its.sequence)
 }
 
 fn is_apart_from_all(message: &Message, before: &[Message]) -> bool

@@ -103,8 +103,8 @@ impl<A: Allocator + Copy> Core<A> {
         snapshot: &Snapshot<A>,
     ) -> Result<Option<Core<A>>, AllocError>
         requires { IsConfig (config_view config) }
-        ensures config { IfOk result (IfSome (λ core. core.config ≡ config_view config)) }
-        ensures log { IfOk result (IfSome (λ core. core.log ≡ record { start = snapshot_view snapshot.now; events = [] })) }
+        ensures config { IfOk result (λ found. IfSome found (λ core. core.config ≡ config_view config)) }
+        ensures log { IfOk result (λ found. IfSome found (λ core. core.log ≡ record { start = snapshot_view snapshot.now; events = [] })) }
     {
         let Some(state) = restored_state(alloc, &config, snapshot)? else {
             return Ok(None);

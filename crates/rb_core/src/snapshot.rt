@@ -49,8 +49,8 @@ fn stated<A: Allocator + Copy>(
     config: &Config<A>,
     snapshot: &Snapshot<A>,
 ) -> Result<Option<CoreState<A>>, AllocError>
-    ensures state { IfOk result (IfSome (λ state. state_view state ≡ begun (config_view config.now) (snapshot_view snapshot.now))) }
-    ensures snapshot { IfOk result (IfSome (λ state. snapshot_of (standing_view state) ≡ snapshot_view snapshot.now)) }
+    ensures state { IfOk result (λ found. IfSome found (λ state. state_view state ≡ begun (config_view config.now) (snapshot_view snapshot.now))) }
+    ensures snapshot { IfOk result (λ found. IfSome found (λ state. snapshot_of (standing_view state) ≡ snapshot_view snapshot.now)) }
 {
     if snapshot.books.len() != config.chains.len() {
         return Ok(None);
@@ -81,9 +81,9 @@ pub(crate) fn restored_state<A: Allocator + Copy>(
     config: &Config<A>,
     snapshot: &Snapshot<A>,
 ) -> Result<Option<CoreState<A>>, AllocError>
-    ensures state { IfOk result (IfSome (λ state. state_view state ≡ begun (config_view config.now) (snapshot_view snapshot.now))) }
-    ensures snapshot { IfOk result (IfSome (λ state. snapshot_of (standing_view state) ≡ snapshot_view snapshot.now)) }
-    ensures begun { IfOk result (IfSome (λ state. IsBegun (config_view config.now) (snapshot_view snapshot.now))) }
+    ensures state { IfOk result (λ found. IfSome found (λ state. state_view state ≡ begun (config_view config.now) (snapshot_view snapshot.now))) }
+    ensures snapshot { IfOk result (λ found. IfSome found (λ state. snapshot_of (standing_view state) ≡ snapshot_view snapshot.now)) }
+    ensures begun { IfOk result (λ found. IfSome found (λ state. IsBegun (config_view config.now) (snapshot_view snapshot.now))) }
 {
     let Some(state) = stated(alloc, config, snapshot)? else {
         return Ok(None);

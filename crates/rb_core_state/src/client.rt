@@ -344,7 +344,7 @@ impl<A: Allocator + Copy> ClientState<A> {
         config: ClientConfig,
         known: &ClientSnapshot<A>,
     ) -> Result<Option<ClientState<A>>, AllocError>
-        ensures { IfOk result (IfSome (λ state. state.client ≡ client_from config (known_client known.now))) }
+        ensures { IfOk result (λ found. IfSome found (λ state. state.client ≡ client_from config (known_client known.now))) }
     {
         if !rise(known.stored.as_slice()) {
             return Ok(None);

@@ -339,7 +339,7 @@ impl<A: Allocator + Copy> PathState<A> {
         config: PathConfig,
         known: &PathSnapshot<A>,
     ) -> Result<Option<PathState<A>>, AllocError>
-        ensures { IfOk result (IfSome (λ state. state.path ≡ path_from config (known_path known.now))) }
+        ensures { IfOk result (λ found. IfSome found (λ state. state.path ≡ path_from config (known_path known.now))) }
     {
         let packets = known.packets.as_slice();
         if packets.len() > MAX_PACKETS || !is_path(known.first, packets, &[]) {

@@ -70,8 +70,8 @@ pub fn restored_clients<A: Allocator + Copy>(
     configs: &[ClientConfig],
     known: &[ClientSnapshot<A>],
 ) -> Result<Option<Vec<ClientState<A>, A>>, AllocError>
-    ensures configs { IfOk result (IfSome (λ clients. map (λ (c : standings.ClientState). c.config) (clients_of clients.items) ≡ configs.now)) }
-    ensures known { IfOk result (IfSome (λ clients. map snapshot_of_client (clients_of clients.items) ≡ map known_client known.now)) }
+    ensures configs { IfOk result (λ found. IfSome found (λ clients. map (λ (c : standings.ClientState). c.config) (clients_of clients.items) ≡ configs.now)) }
+    ensures known { IfOk result (λ found. IfSome found (λ clients. map snapshot_of_client (clients_of clients.items) ≡ map known_client known.now)) }
 {
     if known.len() != configs.len() {
         return Ok(None);
@@ -94,8 +94,8 @@ pub fn restored_paths<A: Allocator + Copy>(
     configs: &[PathConfig],
     known: &[PathSnapshot<A>],
 ) -> Result<Option<Vec<PathState<A>, A>>, AllocError>
-    ensures configs { IfOk result (IfSome (λ paths. map (λ (p : standings.PathState). p.config) (paths_of paths.items) ≡ configs.now)) }
-    ensures known { IfOk result (IfSome (λ paths. map snapshot_of_path (paths_of paths.items) ≡ map known_path known.now)) }
+    ensures configs { IfOk result (λ found. IfSome found (λ paths. map (λ (p : standings.PathState). p.config) (paths_of paths.items) ≡ configs.now)) }
+    ensures known { IfOk result (λ found. IfSome found (λ paths. map snapshot_of_path (paths_of paths.items) ≡ map known_path known.now)) }
 {
     if known.len() != configs.len() {
         return Ok(None);
