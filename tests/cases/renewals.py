@@ -1,12 +1,12 @@
 """Journals of `ibcplan follow` that are begun anew: what was forgotten goes, and no answer changes, however the process ends."""
 import hashlib
-import json
+import itertools
 import re
 import shutil
 import subprocess
 
 from cases.forgets import CHAINS, CLIENT, FIRST, PATH, a_set, header, stored, time_of, told_packets, turn_at
-from lib.following import Following, answers_of, check, ended, run_in_pieces
+from lib.following import MARK, PATIENCE, answers_of, check, ended, run_in_pieces
 
 END = b"# ---\n"
 ANEW = b"# ibcplan journal 3\n"
@@ -44,7 +44,7 @@ class Busy:
         self.forget()
         self.documents = list(busy_turns(order))
         self.plain = run_in_pieces([*program, "follow", str(self.setup), *words], ended(self.documents), 4096)
-        lines = self.plain.output.replace("---\n", "")
+        lines = self.plain.output.replace(MARK, "")
         self.head, self.answers, self.end = answers_of(lines)
 
     def forget(self):
@@ -58,10 +58,10 @@ class Busy:
         """Tells some turns, and all that is written then."""
         return run_in_pieces(self.command(), ended(self.documents[first:last]), 4096)
 
-    def begun(self, output):
-        """The turn before the first one that is answered."""
-        found = re.search(r"^turn (\d+)$", output, re.M)
-        return int(found[1]) - 1 if found else None
+    def begun(self):
+        """How many turns led to the state of the journal: the first word of it."""
+        journal = self.journal.read_bytes() if self.journal.exists() else b""
+        return int(journal.split(b"'''", 1)[1].split(None, 1)[0]) if journal.startswith(ANEW) else 0
 
     def wanted(self, first, last):
         return self.head + "".join(self.answers[first:last]) + self.end
@@ -76,7 +76,7 @@ def whole_runs(program, folder):
     """A run in one go: its answers are those without a journal, and the journal doesn't grow; then a restart after each few turns, each of which answers the
     turns since the state. Each batch that is open then was planned in one of these."""
     runs = wrong = 0
-    for order, words in (("unordered", ()), ("ordered", ()), ("unordered", ("--workers", "2"))):
+    for order, words in (("unordered", ()), ("ordered", ("--workers", "2"))):
         busy, what = Busy(program, folder, order, *words), f"{order, words}"
         wrong += check(f"{what}: without a journal", (busy.plain.error, busy.plain.status, len(busy.answers)), ("", 0, TURNS))
         done = busy.told(0, TURNS)
@@ -86,12 +86,10 @@ def whole_runs(program, folder):
         busy.forget()
         begun, taken, held = set(), 0, 0
         while taken < TURNS:
-            more = min(3 + taken % 5, TURNS - taken)
+            more, first = min(5 + taken % 7, TURNS - taken), busy.begun()
             done = busy.told(taken, taken + more)
-            first = busy.begun(done.output)
             wrong += check(f"{what}: {taken} turns, and {more} more", (done.output, done.error, done.status), (busy.wanted(first, taken + more), "", 0))
             begun.add(first)
-            opened = set(re.findall(r"^client (\S+) .*?^batch (\d+) ", "".join(busy.answers[first:taken]), re.M | re.S))
             for client, number in held_before(busy.answers[taken]):
                 held += first > 0
                 planned = any(re.search(rf"^client {client} (?!held).*?^batch {number} ", answer, re.M | re.S) for answer in busy.answers[first:taken])
@@ -122,7 +120,7 @@ def kill_runs(program, folder):
         return 0, 0
     busy, runs, wrong = Busy(program, folder, "unordered"), 0, 0
     before, taken = last_before(busy)
-    for call, how in [(call, how) for call in ("openat", "flock", "ftruncate", "write", "fsync", "rename,renameat,renameat2") for how in ("signal=KILL", "error=EIO")]:
+    for call, how in itertools.product(("openat", "ftruncate", "write", "fsync", "rename,renameat,renameat2"), ("signal=KILL", "error=EIO")):
         for number in range(1, 40):
             busy.forget()
             busy.journal.write_bytes(before)
@@ -130,16 +128,14 @@ def kill_runs(program, folder):
             got = run_in_pieces([*words, *busy.command()], ended(busy.documents[taken:taken + 2]), 4096)
             if got.status == 0 and "not begun anew" not in got.error:
                 break
-            first = busy.begun(got.output)
-            wrong += check(f"{call} {number} {how}", first is None or busy.wanted(first, taken + 2).startswith(got.output.removesuffix(busy.end)), True)
-            bytes_now = busy.journal.read_bytes()
-            wrong += check(f"{call} {number} {how}: the file", bytes_now.startswith(before[:len(before) // 2]) or bytes_now.startswith(ANEW), True)
-            again = run_in_pieces(busy.command(), b"", 4096)
-            first = busy.begun(again.output)
-            stored = (first or 0) + again.output.count("---\n")
-            wrong += check(f"{call} {number} {how}: again", (again.output, again.status, taken <= stored <= taken + 2), (busy.wanted(first, stored), 0, True))
+            what, answered = f"{call} {number} {how}", got.output.count(MARK)
+            wrong += check(what, busy.wanted(busy.begun(), taken + 2).startswith(got.output.removesuffix(busy.end)) or busy.wanted(0, taken + 2).startswith(got.output.removesuffix(busy.end)), True)
+            wrong += check(f"{what}: the file", before in busy.journal.read_bytes() or busy.journal.read_bytes().startswith(ANEW), True)
+            again, first = run_in_pieces(busy.command(), b"", 4096), busy.begun()
+            stored = first + again.output.count(MARK)
+            wrong += check(f"{what}: again", (again.output, again.status, max(taken, answered) <= stored <= taken + 2), (busy.wanted(first, stored), 0, True))
             done = busy.told(stored, stored + 9)
-            wrong += check(f"{call} {number} {how}: gone on", (done.output.endswith(busy.wanted(stored, stored + 9)[len(busy.head):]), done.status), (True, 0))
+            wrong += check(f"{what}: gone on", (done.output.endswith(busy.wanted(stored, stored + 9)[len(busy.head):]), done.status), (True, 0))
             runs += 4
     return runs, wrong
 
@@ -155,7 +151,7 @@ def damage_runs(program, folder):
     busy.told(0, TURNS)
     whole = busy.journal.read_bytes()
     size = whole.index(END) + len(END)
-    for bit in sorted({*range(0, 8 * size, 40_009), *range(0, 8 * 40, 7), *range(8 * (size - 90), 8 * size, 11)}):
+    for bit in sorted({*range(0, 8 * size, 40_009), *range(8 * 17, 8 * 40, 29), *range(8 * (size - 90), 8 * size, 31)}):
         flipped = bytearray(whole)
         flipped[bit // 8] ^= 1 << bit % 8
         busy.journal.write_bytes(flipped)
@@ -164,13 +160,13 @@ def damage_runs(program, folder):
         wrong += check(f"a state with bit {bit} flipped", (done.output, found, done.status, busy.journal.read_bytes() == flipped), ("", True, 2, True))
         runs += 1
     second = whole.index(END, size) + len(END)
-    for place in (1, len(ANEW), size // 2, size - 1, size, size + 1, second - 1):
+    for place in (len(ANEW), size // 2, size - 1, size, size + 1, second - 1):
         busy.journal.write_bytes(whole[:place])
         done = run_in_pieces(busy.command(), b"", 4096)
         wrong += check(f"a journal cut at byte {place} of a state of {size}", (done.output, done.status, busy.journal.read_bytes() == whole[:place]), ("", 2, True))
         runs += 1
     body = whole[:size - 73]
-    numbers = list(re.finditer(rb"(?<= )\d+(?=[ \n])", body))
+    numbers = list(re.finditer(rb"(?<= )\d+(?=[ \n])", body))[1:]  # the first is the journal's form
     changed = [body[:found.start()] + b"0" + body[found.start():] for found in numbers[:3]]
     changed += [body[:found.start()] + str(int(found[0]) + 1).encode() + body[found.end():] for found in numbers[2:60:7]]
     changed += [body.replace(b" yes", b" no", 1), body.replace(b"'''\n", b"'''\n 1", 1), body[:-4] + b" 1\n'''\n"]
@@ -191,9 +187,8 @@ def damage_runs(program, folder):
     wrong += check("no file beside it", (done.output, "not begun anew" in done.error, done.error.count("\n") < 8, done.status), (busy.plain.output, True, True, 0))
     wrong += check("the journal stays then", busy.journal.read_bytes().startswith(b"# ibcplan journal 2\n"), True)
     busy.new.rmdir()
-    plan = subprocess.run([*program, "plan", str(busy.journal)], capture_output=True, text=True, timeout=120)
     busy.journal.write_bytes(whole)
-    plan = subprocess.run([*program, "plan", str(busy.journal)], capture_output=True, text=True, timeout=120)
+    plan = subprocess.run([*program, "plan", str(busy.journal)], capture_output=True, text=True, timeout=PATIENCE)
     wrong += check("`plan` of a journal with a state", (plan.stdout, plan.stderr.splitlines()[:1], plan.returncode), ("", ["fault 1003 UnknownKey at state"], 1))
     return runs + 4, wrong
 
