@@ -1,6 +1,7 @@
 //! Who leads a relayer through turns.
 ghost use Rattle.std.specs.Prelude.{◌≡◌, ◌≤◌, [], IfOk};
 ghost use Rattle.rb_core.specs.Core.{state_in};
+ghost use Rattle.rb_core_model.specs.Config.{IsSetUp};
 ghost use Rattle.rb_core_model.specs.Forgetting.{floors_of, has_many_to_forget, rest_at_floors};
 ghost use Rattle.rb_core_model.specs.Over.{firsts_of};
 ghost use Rattle.rb_core.specs.Snapshot.{snapshot_view};
@@ -78,7 +79,8 @@ impl<G: Gate + Send + Sync + Drop + 'static> Driver<G> {
 
     /// What the relayer was set up with.
     pub fn config(&self) -> &Config
-        ensures { config_view result.now ≡ (core_of self.now).config }
+        ensures value { config_view result.now ≡ (core_of self.now).config }
+        ensures set_up { IsSetUp (core_of self.now).config }
     {
         match self {
             Driver::Alone(supervisor) => supervisor.core().config(),

@@ -1,4 +1,7 @@
 //! The state of a follower as a text, from which another one goes on.
+ghost use Rattle.std.specs.Prelude.{◌≡◌, [], IfOk};
+ghost use Rattle.rb_script_types.specs.Config.{config_view, IsConfig};
+
 use crate::words::{Unread, Words, Written, write_all};
 use rb_core::{Core, Snapshot};
 use rb_script_read::{Reading, SetNames};
@@ -34,7 +37,11 @@ pub(crate) fn state_text(
 }
 
 /// The state that a text tells. It is `Wrong` where it isn't the text of a state that a relayer which is configured so can be in.
-pub(crate) fn read_state(alloc: Global, config: Config, text: &str) -> Result<State, Unread> {
+pub(crate) fn read_state(alloc: Global, config: Config, text: &str) -> Result<State, Unread>
+    requires { IsConfig (config_view config) }
+    ensures config { IfOk result (λ s. s.core.config ≡ config_view config) }
+    ensures log { IfOk result (λ s. s.core.log.events ≡ []) }
+{
     let mut words = Words::of(alloc, &config, text);
     let turns = words.read::<usize>()?;
     let room = words.read::<usize>()?;

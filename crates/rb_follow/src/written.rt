@@ -3,7 +3,7 @@ use crate::words::{Unread, Words, Written, write_all, write_digits};
 use hex::FromHex;
 use rb_base::{Height, Moment, Window};
 use rb_batch::Transaction;
-use rb_book::{BookError, ChainBook, Header, Record, RecordAt, SharedBook, Vote};
+use rb_book::{BookError, ChainBook, Header, MAX_RECORDS, Record, RecordAt, SharedBook, Vote};
 use rb_core::Snapshot;
 use rb_core_state::{ClientSnapshot, OpenBatch, PathSnapshot};
 use rb_plan_client::{Batch, Message};
@@ -244,7 +244,11 @@ impl Written for SharedBook {
     }
 
     fn read(words: &mut Words<'_>) -> Result<SharedBook, Unread> {
-        let mut book = ChainBook::with_limit(words.alloc, words.config.limit)?;
+        let limit = words.config.limit;
+        if limit == 0 || limit > MAX_RECORDS {
+            return Err(Unread::Wrong);
+        }
+        let mut book = ChainBook::with_limit(words.alloc, limit)?;
         for set in words.read::<Vec<ValidatorSet>>()? {
             book.add_set(set)?;
         }

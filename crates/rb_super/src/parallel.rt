@@ -3,6 +3,7 @@ ghost use Rattle.std.specs.Prelude.{◌≡◌, ◌<◌, ◌≤◌, ◌+◌, ◌*
 ghost use Rattle.rb_script_types.specs.Config.{config_view, IsConfig};
 ghost use Rattle.rb_script_types.specs.Script.{IsReadObservation};
 ghost use Rattle.rb_core.specs.Core.{state_in};
+ghost use Rattle.rb_core_model.specs.Config.{IsSetUp};
 ghost use Rattle.rb_core_model.specs.Forgetting.{floors_of, has_many_to_forget, rest_at_floors};
 ghost use Rattle.rb_core_model.specs.Over.{firsts_of};
 ghost use Rattle.rb_core.specs.Snapshot.{snapshot_view};
@@ -327,7 +328,8 @@ impl<G: Gate + Send + Sync + Drop + 'static> ParallelSupervisor<G> {
 
     /// What the relayer was set up with.
     pub fn config(&self) -> &Config
-        ensures { config_view result.now ≡ self.now.config }
+        ensures value { config_view result.now ≡ self.now.config }
+        ensures set_up { IsSetUp self.now.config }
     {
         self.relayer.config()
     }
