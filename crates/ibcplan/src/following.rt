@@ -92,7 +92,14 @@ pub fn follow<'a, R: Host, G: Gate + Send + Sync + Drop + 'static, I: Read, J: J
 }
 
 /// The same by a follower that goes on from the state of its journal, where that has one.
-pub fn follow_from<'a, R: Host, G: Gate + Send + Sync + Drop + 'static, I: Read, J: Journal, W: Sink>(
+pub fn follow_from<
+    'a,
+    R: Host,
+    G: Gate + Send + Sync + Drop + 'static,
+    I: Read,
+    J: Journal,
+    W: Sink,
+>(
     rt: &R,
     alloc: Global,
     setup: &Input<'a>,

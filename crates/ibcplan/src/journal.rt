@@ -13,10 +13,9 @@ use rb_journal::{
 use rb_script_toml::RunError;
 use std::alloc::Global;
 use std::fs::{File, OpenFile, OpenOptions, TryLockError, rename};
-use std::io;
 use std::io::{Read, Seek, SeekFrom, Write};
-use std::mem;
 use std::vec::IntoIter;
+use std::{io, mem};
 
 /// What to do where the file can't be opened or read.
 const UNREAD: &str =

@@ -3,7 +3,7 @@ use Rattle.std.proofs.Common.{◌≡◌, ℕ, ◌+◌, ◌<◌, ◌≤◌, Bool,
 use Rattle.std.specs.declared.alloc.Global.{Global}
 use Rattle.rb_core.specs.Core.{Core, state_in}
 use Rattle.rb_core_model.specs.Event.{Event}
-use Rattle.rb_core_model.specs.Log.{state_of}
+use Rattle.rb_core_model.specs.Machine.{state_of}
 use Rattle.rb_core_model.specs.Forgetting.{floors_of, rest_at_floors}
 use Rattle.rb_core_model.specs.Limits.{max_events}
 use Rattle.rb_core_model.specs.Snapshot.{from_nothing}

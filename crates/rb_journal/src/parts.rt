@@ -88,6 +88,7 @@ pub fn is_opening(digests: bool, part: &[u8]) -> bool
 
 /// What the part of a state begins with, and the line behind the state.
 const STATE: &str = "# ibcplan journal 3\nstate = '''\n";
+
 const STATE_END: &str = "'''\n";
 
 /// The part that a journal which was begun anew has before its setup: the state that it goes on from.
@@ -108,6 +109,8 @@ pub fn state_in(part: &[u8]) -> Option<&[u8]>
     ensures { MatchOption result ((state : List ℕ) → part.now ≡ state_part state → ⊥) (λ state. (other : List ℕ) → part.now ≡ state_part other → state.now ≡ other) }
 {
     let rest = part.strip_prefix(STATE.as_bytes())?;
-    let end = rest.len().saturating_sub(closing_length(true) + STATE_END.len());
+    let end = rest
+        .len()
+        .saturating_sub(closing_length(true) + STATE_END.len());
     Some(&rest[..end])
 }

@@ -56,7 +56,7 @@ returns-clause-told g c =
     let right = subst (λ (d : List ℕ). IsRight f (next_turn f d)) c.document-document.ensures c.in_ok-follower-2.ensures.right in
     let stored = subst (λ (d : List ℕ). StoresAll old.stored new.stored (accepted (document d ∷ []) (a ∷ []))) c.document-document.ensures c.in_ok-stored.ensures.stored in
     let told = told-tell (λ x. following x) form f (document (all_read c.args.gathering.now)) a k old new c.tell.result
-        answer right stored c.tell.ensures.same c.tell.ensures.written in
+    answer right stored c.tell.ensures.same c.tell.ensures.written in
     subst (λ (s : Option (List (List ℕ))). IfOk c.tell.result (λ r. Told form (following c.args.follower) ds (outs w s) new (following r))) c.renew.ensures.kept
     (subst (λ x. IfOk c.tell.result (λ r. Told form (following x) ds old new (following r))) c.in_ok-follower.ensures.same told)
 
@@ -75,6 +75,6 @@ returns-clause-begun g c =
     let right = subst (λ (d : List ℕ). IsRight f (next_turn f d)) c.document-document.ensures c.in_ok-follower-2.ensures.right in
     let stored = subst (λ (d : List ℕ). StoresAll old.stored new.stored (accepted (document d ∷ []) (a ∷ []))) c.document-document.ensures c.in_ok-stored.ensures.stored in
     let begun = begins-tell form f (document (all_read c.args.gathering.now)) a (following k) old new c.tell.result
-        answer right stored c.tell.ensures.begun in
+    answer right stored c.tell.ensures.begun in
     subst (λ (s : Option (List (List ℕ))). OnErr c.tell.result (BeginsTelling form (following c.args.follower) ds (outs w s) new)) c.renew.ensures.kept
     (subst (λ x. OnErr c.tell.result (BeginsTelling form (following x) ds old new)) c.in_ok-follower.ensures.same begun)
