@@ -1,11 +1,14 @@
 -- A core begins with what is known, where that fits.
-use Rattle.std.proofs.Common.{◌≡◌, ℕ, ◌+◌, ◌<◌, ◌≤◌, nat_le, true, List, [], length, All, Some, IfSome, replicate, sym, ap, subst, refl, inl, inr, arith}
+use Rattle.std.proofs.Common.{◌≡◌, ◌↔◌, ℕ, ◌+◌, ◌<◌, ◌≤◌, ◌==◌, ◌&&◌, nat_le, not, Bool, true, false, if◌then◌else◌, List, [], length, All, Option, Some, None, IfSome, IsSomeAnd, IsTrue, replicate, sym, ap, subst, refl, inl, inr, arith}
 use Rattle.std.specs.List.{list_all, slice_get}
-use Rattle.std.proofs.lemmas.Bool.{cases_lt}
+use Rattle.std.proofs.lemmas.Bool.{cases_lt, false≢true}
 use Rattle.std.proofs.lemmas.List.Elements.{All-map, All-nil}
 use Rattle.std.proofs.lemmas.Option.{slice_get_past}
+use Rattle.rb_base.specs.declared.gate.Part.TheVariants.{Packets, Channel}
 use Rattle.rb_script_types.specs.Config.{Config}
+use Rattle.rb_script_types.specs.declared.config.PathConfig.{PathConfig}
 use Rattle.rb_core_model.specs.Begun.{IsBegun, max_begun}
+use Rattle.rb_core_model.specs.Config.{part_for}
 use Rattle.rb_core_model.specs.Event.{IsEvent}
 use Rattle.rb_core_model.specs.Fits.{Fits}
 use Rattle.rb_core_model.specs.Machine.{State, begun, no_scans}
@@ -54,3 +57,28 @@ module _ {X : Type 0} (P : ℕ → X → Type 0) (xs : List X) (n : ℕ) where
     | inl below ↦ before i below
     | inr above ↦ subst (λ o. IfSome o (P i)) (sym (slice_get_past xs i (omega (arith, long, above)))) tt
   ]
+
+-- ---- the clients of a path
+
+pub receives_for : (p : PathConfig) (client : ℕ) → IsTrue (p.forward == client) ↔ (part_for p client ≡ Some Packets)
+receives_for p client = go (p.forward == client) (p.back == client)
+  where
+    go : (a b : Bool) → IsTrue a ↔ ((if a then Some Packets else (if b then Some Channel else None)) ≡ Some Packets)
+    go true b = (λ _. refl, λ _. refl)
+    go false true = (λ h. absurd (false≢true h), λ e. absurd (cc))
+    go false false = (λ h. absurd (false≢true h), λ e. absurd (cc))
+
+pub outcomes_for : (p : PathConfig) (client : ℕ) → IsTrue (not (p.forward == client) && (p.back == client)) ↔ (part_for p client ≡ Some Channel)
+outcomes_for p client = go (p.forward == client) (p.back == client)
+  where
+    go : (a b : Bool) → IsTrue (not a && b) ↔ ((if a then Some Packets else (if b then Some Channel else None)) ≡ Some Channel)
+    go true b = (λ h. absurd (false≢true h), λ e. absurd (cc))
+    go false true = (λ _. refl, λ _. refl)
+    go false false = (λ h. absurd (false≢true h), λ e. absurd (cc))
+
+-- a message's path is there and has it, or it isn't
+pub seen_none : {X : Type 0} (o : Option X) (P : X → Type 0) → o ≡ None → IsTrue false ↔ IsSomeAnd o P
+seen_none o P e = (λ h. absurd (false≢true h), λ f. absurd (subst (λ p. IsSomeAnd p P) e f))
+
+pub seen_some : {X : Type 0} (o : Option X) (P : X → Type 0) (x : X) (b : Bool) → o ≡ Some x → IsTrue b ↔ P x → IsTrue b ↔ IsSomeAnd o P
+seen_some o P x b e h = subst (λ p. IsTrue b ↔ IsSomeAnd p P) (sym e) h

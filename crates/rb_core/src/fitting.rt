@@ -1,16 +1,18 @@
 //! Whether what is known fits: what every list of events leaves, beside what the types of its parts keep.
-ghost use Rattle.std.specs.Prelude.{◌≡◌, ◌↔◌, ◌≤◌, ℕ, All, AllPairs, IfSome, IsSome, IsTrue, Some, slice_get};
+ghost use Rattle.std.specs.Prelude.{◌≡◌, ◌↔◌, ◌≤◌, ◌==◌, ◌&&◌, ℕ, All, AllPairs, IfSome, IsSome, IsTrue, Some, slice_get};
+ghost use Rattle.std.specs.Option.{option_copied};
 ghost use Rattle.rb_base.specs.Window.{Span};
 ghost use Rattle.rb_book.specs.Book.{record_at};
 ghost use Rattle.rb_book.specs.Invariant.{IsBook};
 ghost use Rattle.rb_book.specs.Shared.{Shared};
 ghost use Rattle.rb_core.specs.State.{standing_view};
 ghost use Rattle.rb_core_model.specs.Config.{part_for};
-ghost use Rattle.rb_core_model.specs.Fits.{AreApart, Fits, FitsBatch, FitsClient, FitsMessage, FitsPath, part_of};
-ghost use Rattle.rb_core_state.specs.Room.{PathWithRoom, paths_of};
+ghost use Rattle.rb_core_model.specs.Fits.{AreApart, Fits, FitsBatch, FitsClient, FitsMessage, FitsPath, IsOpenOn, part_of};
+ghost use Rattle.rb_core_state.specs.Room.{PathWithRoom};
+ghost use Rattle.rb_scan.specs.Owed.{same_kind};
 ghost use Rattle.rb_step.specs.LightClient.{Update as UpdateTo};
 
-use crate::path_views::part_for;
+use crate::path_views::find_path;
 use crate::state::CoreState;
 use rb_base::{Part, Window};
 use rb_book::{ChainBook, SharedBook};
@@ -18,7 +20,7 @@ use rb_core_state::views::find_book;
 use rb_core_state::{ClientState, OpenBatch, PathState};
 use rb_plan_client::Message;
 use rb_plan_types::Update;
-use rb_scan::Kind;
+use rb_scan::{Kind, PacketMsg};
 use rb_script_types::PathConfig;
 use rb_step::are_known;
 use std::alloc::Allocator;
@@ -59,11 +61,26 @@ fn are_recorded<A: Allocator + Copy>(book: &ChainBook<A>, updates: &[Update]) ->
         .all(|update| book.record(update.height()).is_some())
 }
 
+fn are_alike(kind: Kind, other: Kind) -> bool
+    ensures { result ≡ same_kind kind other }
+{
+    kind == other
+}
+
+fn is_same(message: &Message, other: &Message) -> bool
+    ensures { let m = message.now in let n = other.now
+        in result ≡ ((m.path == n.path) && same_kind m.packet.kind n.packet.kind && (m.packet.sequence == n.packet.sequence)) }
+{
+    let (packet, its) = (message.packet(), other.packet());
+    message.path() == other.path()
+        && are_alike(packet.kind, its.kind)
+        && packet.sequence == its.sequence
+}
+
 fn is_apart(message: &Message, other: &Message) -> bool
     ensures { IsTrue result ↔ AreApart message.now other.now }
 {
-    let (packet, its) = (message.packet(), other.packet());
-    !(message.path() == other.path() && packet.kind == its.kind && packet.sequence == its.sequence)
+    !is_same(message, other)
 }
 
 fn is_apart_from_all(message: &Message, before: &[Message]) -> bool
@@ -84,35 +101,57 @@ fn are_apart(messages: &[Message]) -> bool
     true
 }
 
-/// Whether messages of this kind of a path are for the client.
+/// Whether the receives of a path are for the client.
+fn takes_receives(config: &PathConfig, client: usize) -> bool
+    ensures { IsTrue result ↔ (part_for config.now client ≡ Some Part.Packets) }
+{
+    config.forward == client
+}
+
+/// Whether the acknowledgements and timeouts of a path are.
+fn takes_outcomes(config: &PathConfig, client: usize) -> bool
+    ensures { IsTrue result ↔ (part_for config.now client ≡ Some Part.Channel) }
+{
+    config.forward != client && config.back == client
+}
+
+/// Whether messages of this kind of a path are.
 fn is_for(config: &PathConfig, client: usize, kind: Kind) -> bool
     ensures { IsTrue result ↔ (part_for config.now client ≡ Some (part_of kind)) }
 {
-    match part_for(config, client) {
-        Some(Part::Packets) => kind == Kind::Receive,
-        Some(Part::Channel) => kind != Kind::Receive,
-        None => false,
+    match kind {
+        Kind::Receive => takes_receives(config, client),
+        Kind::Acknowledge | Kind::Timeout => takes_outcomes(config, client),
     }
 }
 
-/// Whether a message's path is there and has this client for it, and its packet is there, and wasn't settled,
-/// or was forgotten.
-fn fits_message<A: Allocator>(paths: &[PathState<A>], client: usize, message: &Message) -> bool
-    ensures { IsTrue result ↔ FitsMessage (paths_of paths.now) client message.now }
+/// Whether a path has this client for a message, whose packet is there, and wasn't settled, or was forgotten.
+fn fits_path<A: Allocator>(path: &PathState<A>, client: usize, message: PacketMsg) -> bool
+    ensures { IsTrue result ↔ ((part_for path.now.path.config client ≡ Some (part_of message.kind)) × IsOpenOn path.now.path message) }
 {
-    let packet = message.packet();
-    match paths.get(message.path()) {
-        Some(path) => is_for(path.config(), client, packet.kind) && path.is_open(packet),
+    is_for(path.config(), client, message.kind) && path.is_open(message)
+}
+
+/// Whether a message's path is there, and has it.
+fn fits_message<A: Allocator + Copy>(state: &CoreState<A>, client: usize, message: &Message) -> bool
+    ensures { IsTrue result ↔ FitsMessage (standing_view state.now).paths client message.now }
+{
+    match find_path(state, message.path()) {
+        Some(path) => fits_path(path, client, message.packet()),
         None => false,
     }
 }
 
-fn fit_messages<A: Allocator>(paths: &[PathState<A>], client: usize, messages: &[Message]) -> bool
-    ensures { IsTrue result ↔ All (FitsMessage (paths_of paths.now) client) messages.now }
+fn fit_messages<A: Allocator + Copy>(
+    state: &CoreState<A>,
+    client: usize,
+    messages: &[Message],
+) -> bool
+    ensures { IsTrue result ↔ All (FitsMessage (standing_view state.now).paths client) messages.now }
 {
     messages
         .iter()
-        .all(|message| fits_message(paths, client, message))
+        .all(|message| fits_message(state, client, message))
 }
 
 /// Whether each update's height has a record, no message stands twice, and each is one for the client.
@@ -124,9 +163,28 @@ fn fits_batch<A: Allocator + Copy>(
 ) -> bool
     ensures { IsTrue result → FitsBatch (standing_view state.now) client book.now batch.now }
 {
-    are_recorded(book, batch.updates())
-        && are_apart(batch.messages())
-        && fit_messages(state.paths.as_slice(), client, batch.messages())
+    if !are_recorded(book, batch.updates()) {
+        return false;
+    }
+    if !are_apart(batch.messages()) {
+        return false;
+    }
+    fit_messages(state, client, batch.messages())
+}
+
+/// The same of a batch, if there is one.
+fn fits_open<A: Allocator + Copy>(
+    state: &CoreState<A>,
+    client: usize,
+    book: &ChainBook<A>,
+    batch: Option<&OpenBatch<A>>,
+) -> bool
+    ensures { IsTrue result → IfSome (option_copied batch) (FitsBatch (standing_view state.now) client book.now) }
+{
+    match batch {
+        Some(batch) => fits_batch(state, client, book, batch),
+        None => true,
+    }
 }
 
 // ---- clients
@@ -147,10 +205,7 @@ fn fits_client<A: Allocator + Copy>(
     if !are_known(client.stored(), book) {
         return false;
     }
-    match client.batch() {
-        Some(batch) => fits_batch(state, place, book, batch),
-        None => true,
-    }
+    fits_open(state, place, book, client.batch())
 }
 
 fn fit_clients<A: Allocator + Copy>(state: &CoreState<A>) -> bool

@@ -81,12 +81,24 @@ pub(crate) fn put_mark<A: Allocator>(packets: &mut Vec<Packet, A>, sequence: u64
     }
 }
 
+fn is_receive_settled(packet: &Packet) -> bool
+    ensures { result ≡ packet.now.receive_settled }
+{
+    *packet == packet.with_receive_settled()
+}
+
+fn is_outcome_settled(packet: &Packet) -> bool
+    ensures { result ≡ packet.now.outcome_settled }
+{
+    *packet == packet.with_outcome_settled()
+}
+
 /// Whether a packet's message of this kind was settled.
 pub(crate) fn was_settled(packet: &Packet, kind: Kind) -> bool
     ensures { result ≡ is_settled (part_of kind) packet.now }
 {
     match kind {
-        Kind::Receive => *packet == packet.with_receive_settled(),
-        Kind::Acknowledge | Kind::Timeout => *packet == packet.with_outcome_settled(),
+        Kind::Receive => is_receive_settled(packet),
+        Kind::Acknowledge | Kind::Timeout => is_outcome_settled(packet),
     }
 }
