@@ -13,7 +13,7 @@ const mostSaid = 1 << 16 // bytes of standard error that are remembered
 
 // A Follower is a process that answers turns as they come, for one goroutine at a time.
 type Follower struct {
-	Past []Turn // the answers to the turns that the journal had
+	Past []Turn // the answers to the turns that the journal had, since it was begun anew
 
 	planner        Planner
 	setup, journal string
@@ -69,7 +69,7 @@ func (follower *Follower) Restart() (*Turn, error) {
 	follower.Close()
 	before := follower.turns
 	lines, err := follower.start()
-	if err != nil || len(lines) <= before {
+	if err != nil || follower.turns <= before {
 		return nil, err
 	}
 	return answerOf(lines[len(lines)-1])
@@ -124,12 +124,12 @@ func (follower *Follower) start() ([]string, error) {
 	follower.lock.Lock()
 	follower.run = started
 	follower.lock.Unlock()
-	lines, err := started.begin(setup)
+	lines, turns, err := started.begin(setup)
 	if err != nil {
 		follower.Close()
 		return nil, err
 	}
-	follower.turns = len(lines)
+	follower.turns = turns
 	return lines, nil
 }
 
@@ -156,31 +156,31 @@ func startRun(command *exec.Cmd) (*run, error) {
 	return started, command.Start()
 }
 
-// begin tells the setup, reads what the process begins with, and gives the old answers: a fault, to an empty document, marks
-// their end.
-func (run *run) begin(setup string) ([]string, error) {
-	line, err := run.exchange(setup + "\n---\n")
+// begin tells the setup, reads what the process begins with, and gives the old answers, and how many turns were answered: a
+// document with a number that isn't due marks their end, since its fault has the number that is.
+func (run *run) begin(setup string) ([]string, int, error) {
+	line, err := run.exchange(setup + "turn = 0\n---\n")
 	if err != nil {
-		return nil, err
+		return nil, 0, err
 	}
 	if _, isFault := faultOf(line); isFault {
-		return nil, run.ended(line) // of the setup
+		return nil, 0, run.ended(line) // of the setup
 	}
 	var greeting Report
 	if err := json.Unmarshal([]byte(line), &greeting); err != nil {
-		return nil, err
+		return nil, 0, err
 	}
 	if err := checkFormat(greeting.Format); err != nil {
-		return nil, err
+		return nil, 0, err
 	}
 	var past []string
 	for {
 		line, err := run.line()
 		if err != nil {
-			return nil, err
+			return nil, 0, err
 		}
-		if _, isFault := faultOf(line); isFault {
-			return past, nil
+		if fault, isFault := faultOf(line); isFault {
+			return past, fault.Due - 1, nil
 		}
 		past = append(past, line)
 	}

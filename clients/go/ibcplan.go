@@ -140,7 +140,8 @@ type Fault struct {
 	Number uint64 `json:"fault"`
 	Name   string `json:"name"`
 	Path   string `json:"path"`
-	Advice string `json:"-"` // what belongs there, for a person; nothing of a turn
+	Due    int    `json:"turn"` // of a turn out of order the number that is due
+	Advice string `json:"-"`    // what belongs there, for a person; nothing of a turn
 }
 
 func (fault *Fault) Error() string {

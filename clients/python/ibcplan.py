@@ -280,13 +280,13 @@ def answer_of(line: str) -> Turn | Fault:
 
 
 class Follower:
-    """A process that answers turns as they come, for one thread at a time. `past` has the answers to the journal's turns."""
+    """A process that answers turns as they come, for one thread at a time. `past` has the answers to the journal's turns, since it was begun
+    anew; `turns` is how many were answered, all of the journal's too."""
 
     def __init__(self, planner: Planner, setup: str, journal: str | None, workers: int, labels: bool) -> None:
         self.planner, self.setup, self.journal, self.workers, self.labels = planner, setup, journal, workers, labels
-        lines = self.start()
+        lines, self.turns = self.start()
         self.past = [cast(Turn, answer_of(line)) for line in lines]
-        self.turns = len(lines)  # how many were answered, the journal's too
 
     def answer(self, turn: Script) -> Turn:
         """The answer to a turn. After a `Fault` all is as before; after a `Failed` the process has ended: `restart`."""
@@ -302,9 +302,9 @@ class Follower:
         if self.journal is None:
             raise Misused("without a journal turns are lost: begin another follower")
         self.close()
-        lines = self.start()
-        taken, self.turns = len(lines) - self.turns, len(lines)
-        return cast(Turn, answer_of(lines[-1])) if taken > 0 else None
+        before = self.turns
+        lines, self.turns = self.start()
+        return cast(Turn, answer_of(lines[-1])) if self.turns > before else None
 
     def answer_or_restart(self, turn: Script) -> Turn:
         """The answer to a turn, by another process where one ended: with a journal no turn is lost, and none counts twice."""
@@ -340,8 +340,8 @@ class Follower:
     def __exit__(self, *_: object) -> None:
         self.close()
 
-    def start(self) -> list[str]:
-        """Starts the process; the answers to the journal's turns."""
+    def start(self) -> tuple[list[str], int]:
+        """Starts the process; the answers to the journal's turns, and how many were answered."""
         words = [self.planner.program, "follow", "--json", "-", *(["--journal", self.journal] if self.journal else [])]
         words += ["--workers", str(self.workers)] if self.workers else []
         words += [] if self.labels else ["--no-labels"]
@@ -353,8 +353,8 @@ class Follower:
             # somebody has to read standard error: the process waits where nobody does
             self.listener = threading.Thread(target=remember, args=(self.process.stderr.fileno(), self.tail), daemon=True)
             self.listener.start()
-            # first comes what the process is; an empty document is answered by a fault, which marks the end of the old answers
-            first = self.exchange(setup + document_of(""))
+            # first comes what the process is; a number that isn't due is answered by a fault with the one that is, behind the old answers
+            first = self.exchange(setup + document_of("turn = 0"))
             if "fault" in (greeting := json.loads(first)):
                 raise self.ended(first)  # of the setup
             check_format(greeting["ibcplan"])
@@ -362,11 +362,12 @@ class Follower:
             while not isinstance(answer_of(line), Fault):
                 lines.append(line)
                 line = self.line()
+            due = cast(int, json.loads(line)["turn"])
         except BaseException:
             if hasattr(self, "process"):
                 self.close()
             raise
-        return lines
+        return lines, due - 1
 
     def exchange(self, document: str) -> str:
         """Writes a document, and reads a line."""

@@ -1,14 +1,14 @@
 //! Turns as they come.
-ghost use Rattle.std.specs.Prelude.{◌≡◌, ◌⊎◌, false, Err, IfErr, IsErr, OnOk, OnErr, IfSome, MatchResult};
+ghost use Rattle.std.specs.Prelude.{◌≡◌, ◌⊎◌, false, None, Err, IfErr, IsSome, IsErr, OnOk, OnErr, IfSome, MatchResult};
 ghost use Rattle.rb_follow.specs.Setups.{setup_of};
 ghost use Rattle.rb_follow.specs.Journals.{outs};
-ghost use Rattle.rb_follow.specs.Headline.{Follows, BeginsFollowing};
+ghost use Rattle.rb_follow.specs.Headline.{Follows, BeginsFollowing, GoesOn};
 ghost use Rattle.ibcplan_cli.specs.Failures.{failure_status, told_fault, is_unwritten};
 
 use crate::host::Host;
 use ibcplan_cli::{Input, ProgramError, WorkerCount};
 use rb_base::{Gate, Sink};
-use rb_follow::{FollowError, Form, Journal, Watcher, follow_over};
+use rb_follow::{FollowError, Form, Journal, Watcher, follow_on, follow_over};
 use rb_script_toml::{Fault, FaultName};
 use std::alloc::Global;
 use std::io;
@@ -87,6 +87,69 @@ pub fn follow<'a, R: Host, G: Gate + Send + Sync + Drop + 'static, I: Read, J: J
         Err(FollowError::Journal(error)) => {
             let advice = journal_advice(&error);
             Err(ProgramError::of_journal(setup.name(), error, advice))
+        }
+    }
+}
+
+/// The same by a follower that goes on from the state of its journal, where that has one.
+pub fn follow_from<
+    'a,
+    R: Host,
+    G: Gate + Send + Sync + Drop + 'static,
+    I: Read,
+    J: Journal,
+    W: Sink,
+>(
+    rt: &R,
+    alloc: Global,
+    setup: &Input<'a>,
+    state: Option<String>,
+    input: &mut I,
+    workers: WorkerCount,
+    form: Form,
+    is_quiet: bool,
+    gate: G,
+    journal: &mut J,
+    output: &mut W,
+) -> Result<(), ProgramError<'a>>
+    requires { W.is_broken output.old ≡ false }
+    ensures followed { OnOk result (IfSome (I.remaining input.old) (λ bytes. (state ≡ None → Follows form setup.now bytes (outs (W.taken output.old) (J.documents journal.old)) (outs (W.taken output.new) (J.documents journal.new))) × (IsSome state → GoesOn form setup.now bytes (outs (W.taken output.old) (J.documents journal.old)) (outs (W.taken output.new) (J.documents journal.new))))) }
+{
+    let Some(state) = state else {
+        return follow(
+            rt, alloc, setup, input, workers, form, is_quiet, gate, journal, output,
+        );
+    };
+    let Ok(gate) = Arc::new(alloc, gate) else {
+        return Err(ProgramError::NoMemory);
+    };
+    let notices = Notices { rt, is_quiet };
+    match follow_on(
+        rt,
+        alloc,
+        setup.bytes(),
+        state.as_str(),
+        input,
+        form,
+        output,
+        workers.count(),
+        &gate,
+        &notices,
+        journal,
+    ) {
+        Ok(()) => Ok(()),
+        Err(error) => Err(failure_of(error, setup)),
+    }
+}
+
+/// Why following failed.
+fn failure_of<'a>(error: FollowError, setup: &Input<'a>) -> ProgramError<'a> {
+    match error {
+        FollowError::Run(error) => ProgramError::of_run(error, setup),
+        FollowError::Input(error) => Input::unread(error),
+        FollowError::Journal(error) => {
+            let advice = journal_advice(&error);
+            ProgramError::of_journal(setup.name(), error, advice)
         }
     }
 }

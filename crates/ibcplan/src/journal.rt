@@ -7,14 +7,15 @@ use crate::host::Host;
 use ibcplan_cli::{Input, ProgramError, Shown};
 use rb_follow::{Journal, check_setup};
 use rb_journal::{
-    damage_in, entry_text, input_of, is_opening, opening_text, split_part, stored_in,
+    damage_in, entry_text, input_of, is_opening, opening_text, split_part, state_in, state_part,
+    stored_in,
 };
 use rb_script_toml::RunError;
 use std::alloc::Global;
-use std::fs::{File, OpenFile, OpenOptions, TryLockError};
-use std::io;
-use std::io::{Read, Write};
+use std::fs::{File, OpenFile, OpenOptions, TryLockError, rename};
+use std::io::{Read, Seek, SeekFrom, Write};
 use std::vec::IntoIter;
+use std::{io, mem};
 
 /// What to do where the file can't be opened or read.
 const UNREAD: &str =
@@ -64,14 +65,138 @@ impl<F: Write + OpenFile> FileJournal<F> {
     }
 }
 
-impl<F: Write + OpenFile> Journal for FileJournal<F> {
+/// The same, which is begun anew where it is long.
+#[derive(Drop)]
+pub struct LongJournal<'a, R> {
+    rt: R,
+    path: &'a str,
+    opening: Vec<u8>,
+    stored: FileJournal<File>,
+    /// From which length on it is begun anew, if there is a state.
+    long: u64,
+    next: Option<Beginning>,
+    /// The file before, which stays locked: who had opened it before its name went to another finds it in use.
+    before: Option<File>,
+}
+
+/// What a journal is to begin with anew: the part of a state, the batches that are open in it, by client, and how long the
+/// file was then.
+#[derive(Drop)]
+struct Beginning {
+    part: String,
+    batches: Vec<u64>,
+    length: u64,
+}
+
+impl<R: Host> LongJournal<'_, R> {
+    /// What it can begin with anew, if it is then half as long at most.
+    fn beginning(&mut self, state: &str, batches: Vec<u64>) -> io::Result<Option<Beginning>> {
+        let Ok(part) = state_part(self.rt.alloc(), state) else {
+            return Err(io::Error::from(io::ErrorKind::OutOfMemory));
+        };
+        let length = self.stored.file.metadata()?.len();
+        self.long = twice(part.len(), self.opening.len());
+        if length < self.long {
+            return Ok(None);
+        }
+        Ok(Some(Beginning {
+            part,
+            batches,
+            length,
+        }))
+    }
+
+    /// Writes a file that takes the place of this one: a state, the setup, and the turns after the state.
+    fn put(&mut self, next: &Beginning) -> io::Result<File> {
+        let Ok(name) = format!(in self.rt.alloc(); "{}.new", self.path) else {
+            return Err(io::Error::from(io::ErrorKind::OutOfMemory));
+        };
+        let mut options = OpenOptions::new();
+        options.read(true).append(true).create(true);
+        let mut file = options.open(&self.rt, name.as_str())?;
+        if file.try_lock().is_err() {
+            return Err(io::Error::new(io::ErrorKind::Other, "another process has it"));
+        }
+        self.stored.file.seek(SeekFrom::Start(next.length))?;
+        let turns = content(self.rt.alloc(), &mut self.stored.file)?;
+        file.set_len(0)?;
+        file.write_all(next.part.as_bytes())?;
+        file.write_all(self.opening.as_slice())?;
+        file.write_all(turns.as_slice())?;
+        file.sync_all()?;
+        rename(&self.rt, name.as_str(), self.path)?;
+        Ok(file)
+    }
+
+    /// Goes on with the file that took the place of the one before.
+    fn go_on(&mut self, file: File) -> io::Result<()> {
+        self.before = Some(mem::replace(&mut self.stored.file, file));
+        File::open(&self.rt, folder_of(self.path))?.sync_all()
+    }
+
+    /// Tells why it isn't begun anew.
+    fn tell(&self, error: &io::Error) {
+        let shown = Shown { name: self.path };
+        let _ = eprintln!(&self.rt; "{shown}: not begun anew: {error}");
+    }
+}
+
+impl<R: Host> Journal for LongJournal<'_, R> {
     ghost use Rattle.std.specs.Prelude.{None};
 
     ghost documents = { λ _. None };
 
     fn store(&mut self, document: &[u8]) -> io::Result<()> {
-        self.store_turn(without_number(document))
+        self.stored.store_turn(without_number(document))
     }
+
+    /// Not again before it is twice as long.
+    fn is_long(&mut self) -> bool {
+        let stored = &self.stored;
+        if self.next.is_some() || !stored.digests || stored.past.len() > 0 {
+            return false;
+        }
+        match stored.file.metadata() {
+            Ok(metadata) if metadata.len() >= self.long => {
+                self.long = metadata.len().saturating_mul(2);
+                true
+            }
+            _ => false,
+        }
+    }
+
+    fn remember(&mut self, state: Option<&str>, batches: Vec<u64>) {
+        let next = match state {
+            Some(state) => self.beginning(state, batches),
+            None => Err(io::Error::new(io::ErrorKind::InvalidData, "its state can't be written")),
+        };
+        match next {
+            Ok(next) => self.next = next,
+            Err(error) => self.tell(&error),
+        }
+    }
+
+    fn batches(&self) -> Option<&[u64]> {
+        Some(self.next.as_ref()?.batches.as_slice())
+    }
+
+    fn renew(&mut self) -> io::Result<()> {
+        let Some(next) = self.next.take() else {
+            return Ok(());
+        };
+        match self.put(&next) {
+            Ok(file) => self.go_on(file),
+            Err(error) => {
+                self.tell(&error);
+                Ok(())
+            }
+        }
+    }
+}
+
+/// Twice as many bytes as both are.
+fn twice(part: usize, opening: usize) -> u64 {
+    (part.saturating_add(opening) as u64).saturating_mul(2)
 }
 
 /// A document without the number that it may begin with: a turn of a script has none.
@@ -85,10 +210,12 @@ fn without_number(document: &[u8]) -> &[u8] {
     }
 }
 
-/// A journal that was opened, the setup that it begins with, and the documents that it has, as an input.
+/// A journal that was opened, the state that it goes on from, if it was begun anew, the setup that it begins with, and
+/// the documents that it has, as an input.
 #[derive(Drop)]
-pub struct OpenedJournal<'a> {
-    pub journal: FileJournal<File>,
+pub struct OpenedJournal<'a, R> {
+    pub journal: LongJournal<'a, R>,
+    pub state: Option<String>,
     pub setup: Input<'a>,
     pub past: Vec<u8>,
 }
@@ -100,7 +227,7 @@ pub fn open_journal<'a, R: Host>(
     rt: &R,
     setup: Option<Input<'a>>,
     path: &'a str,
-) -> Result<OpenedJournal<'a>, ProgramError<'a>> {
+) -> Result<OpenedJournal<'a, R>, ProgramError<'a>> {
     let input = match setup {
         Some(setup) => Some(checked(rt, setup)?),
         None => None,
@@ -115,15 +242,38 @@ pub fn open_journal<'a, R: Host>(
         Some(input) => Some(opening_of(rt, digests, input)?),
         None => None,
     };
-    if digests && is_opening(true, bytes.as_slice()) {
+    let (state, rest) = split_state(rt, path, bytes.as_slice())?;
+    if digests && (state.is_some() || is_opening(true, rest)) {
         check_digests(rt, path, bytes.as_slice())?;
     }
-    match split_part(bytes.as_slice()) {
+    match split_part(rest) {
         Some((first, turns)) => {
             check_opening(path, digests, first, &opening)?;
-            gone_on(rt, path, file, digests, first, turns)
+            gone_on(rt, path, file, digests, state, first, turns)
         }
-        None => begun(rt, path, file, digests, bytes.as_slice(), opening),
+        None if state.is_some() => Err(no_journal(path, "it isn't a journal")),
+        None => begun(rt, path, file, digests, rest, opening),
+    }
+}
+
+/// The state that a journal goes on from, if it was begun anew, and what stands behind it.
+fn split_state<'a, 'b, R: Host>(
+    rt: &R,
+    path: &'a str,
+    bytes: &'b [u8],
+) -> Result<(Option<String>, &'b [u8]), ProgramError<'a>> {
+    let Some((part, rest)) = split_part(bytes) else {
+        return Ok((None, bytes));
+    };
+    let Some(state) = state_in(part) else {
+        return Ok((None, bytes));
+    };
+    match str::from_utf8(state) {
+        Ok(state) => match String::from_str(rt.alloc(), state) {
+            Ok(state) => Ok((Some(state), rest)),
+            Err(_) => Err(ProgramError::NoMemory),
+        },
+        Err(_) => Err(no_journal(path, "it isn't a journal")),
     }
 }
 
@@ -211,7 +361,7 @@ fn begun<'a, R: Host>(
     digests: bool,
     bytes: &[u8],
     opening: Option<String>,
-) -> Result<OpenedJournal<'a>, ProgramError<'a>> {
+) -> Result<OpenedJournal<'a, R>, ProgramError<'a>> {
     let Some(opening) = opening else {
         return Err(no_journal(path, "it has no setup: give SETUP, too"));
     };
@@ -222,7 +372,7 @@ fn begun<'a, R: Host>(
     match write_opening(&mut file, opening.as_str()) {
         Ok(()) => {
             let past = Vec::new(rt.alloc());
-            settled(rt, path, file, digests, opening.as_bytes(), past)
+            settled(rt, path, file, digests, None, opening.as_bytes(), past)
         }
         Err(error) => Err(failed(path, error, UNWRITTEN)),
     }
@@ -255,9 +405,10 @@ fn gone_on<'a, R: Host>(
     path: &'a str,
     file: File,
     digests: bool,
+    state: Option<String>,
     opening: &[u8],
     turns: &[u8],
-) -> Result<OpenedJournal<'a>, ProgramError<'a>> {
+) -> Result<OpenedJournal<'a, R>, ProgramError<'a>> {
     let stored = match stored_in(rt.alloc(), digests, turns) {
         Ok(stored) => stored,
         Err(RunError::Fault(_)) => return Err(no_journal(path, "a part of it isn't a turn")),
@@ -265,11 +416,7 @@ fn gone_on<'a, R: Host>(
     };
     let cut = stored.cut;
     if cut > 0 {
-        let whole = opening
-            .len()
-            .saturating_add(turns.len())
-            .saturating_sub(cut);
-        if let Err(error) = file.set_len(whole as u64) {
+        if let Err(error) = cut_off(&file, cut as u64) {
             return Err(failed(path, error, UNWRITTEN));
         }
         let shown = Shown { name: path };
@@ -277,7 +424,12 @@ fn gone_on<'a, R: Host>(
             "{shown}: the last {cut} bytes are left out: a turn that wasn't answered"
         );
     }
-    settled(rt, path, file, digests, opening, stored.documents)
+    settled(rt, path, file, digests, state, opening, stored.documents)
+}
+
+/// Cuts off the last bytes of a file.
+fn cut_off(file: &File, count: u64) -> io::Result<()> {
+    file.set_len(file.metadata()?.len().saturating_sub(count))
 }
 
 /// A journal that goes on behind these documents, which the disk has: they may have been written and not synced.
@@ -286,24 +438,39 @@ fn settled<'a, R: Host>(
     path: &'a str,
     file: File,
     digests: bool,
+    state: Option<String>,
     opening: &[u8],
     documents: Vec<Vec<u8>>,
-) -> Result<OpenedJournal<'a>, ProgramError<'a>> {
+) -> Result<OpenedJournal<'a, R>, ProgramError<'a>> {
     let alloc = rt.alloc();
     if let Err(error) = settle(rt, path, &file) {
         return Err(failed(path, error, UNWRITTEN));
     }
+    let length = match &state {
+        Some(state) => state.len(),
+        None => 0,
+    };
     match (
+        Vec::from_slice(alloc, opening),
         Vec::from_slice(alloc, opening),
         input_of(alloc, documents.as_slice()),
     ) {
-        (Ok(setup), Ok(past)) => Ok(OpenedJournal {
-            journal: FileJournal {
-                alloc,
-                file,
-                digests,
-                past: documents.into_iter(),
+        (Ok(setup), Ok(begun), Ok(past)) => Ok(OpenedJournal {
+            journal: LongJournal {
+                rt: *rt,
+                path,
+                opening: begun,
+                stored: FileJournal {
+                    alloc,
+                    file,
+                    digests,
+                    past: documents.into_iter(),
+                },
+                long: twice(length, opening.len()),
+                next: None,
+                before: None,
             },
+            state,
             setup: Input::beginning(path, setup),
             past,
         }),

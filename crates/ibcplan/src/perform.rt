@@ -9,7 +9,7 @@ ghost use Rattle.ibcplan.specs.Status.{IsPlanWritten, IsConfirmed, IsDenied};
 use crate::explain::{AskedExplanation, Form, explain};
 use crate::explained::Explained;
 use crate::first_text::{FirstText, first_text, last_text};
-use crate::following::follow;
+use crate::following::{follow, follow_from};
 use crate::forms::{commands_of_script, json_of_script};
 use crate::given::{GivenScript, given_script, script_of_text};
 use crate::health::health_of_script;
@@ -454,6 +454,7 @@ fn follow_journal<'a, R: Host, W: Sink>(
     };
     let OpenedJournal {
         mut journal,
+        state,
         setup,
         past,
     } = open_journal(rt, setup, journal)?;
@@ -461,10 +462,11 @@ fn follow_journal<'a, R: Host, W: Sink>(
     let mut input = Cursor::new(past)
         .chain(Cursor::new(rest))
         .chain(rt.reader());
-    follow(
+    follow_from(
         rt,
         rt.alloc(),
         &setup,
+        state,
         &mut input,
         following.workers,
         answer_form(following),

@@ -40,6 +40,8 @@ module _ (config : Config) (log : Log) (s t : State) (is : IsFold config log s) 
 
   starts : All (λ (c : ClientState). c.batches ≤ max_begun) t.standing.clients → IsBegun config (snapshot_of t.standing)
   starts few = record {
+    first = is.begun.first;
+    fits = is.begun.fits;
     earlier = log.events ∷ is.begun.earlier;
     events = All-cons (All IsEvent) log.events is.begun.earlier is.events is.begun.events;
     is =

@@ -5,3 +5,4 @@ pub mod Entries
 pub mod Unjudged
 pub mod Rooms
 pub mod Anew
+pub mod Restoring

@@ -1,5 +1,5 @@
 -- The room of what the code holds is the room that a contract sees.
-use Rattle.std.proofs.Common.{◌≡◌, ℕ, zero, suc, ◌-◌, ◌<◌, ◌≤◌, Bool, true, List, [], ◌∷◌, None, Result, Ok, Err, IfOk, IsSomeAnd, All, length, map, refl, sym, ap, ◌∙◌, subst, arith}
+use Rattle.std.proofs.Common.{◌≡◌, ℕ, zero, suc, ◌-◌, ◌<◌, ◌≤◌, Bool, true, List, [], ◌∷◌, None, Result, Ok, Err, IfOk, IsSomeAnd, All, length, map, refl, sym, ap, ◌∙◌, subst, inl, arith}
 use Rattle.std.specs.List.{slice_get}
 use Rattle.std.specs.Option.{option_and_then}
 use Rattle.std.proofs.lemmas.List.Elements.{All-nil}
@@ -8,14 +8,15 @@ use Rattle.rb_base.specs.Fee.{IsFeeTable}
 use Rattle.rb_script_types.specs.Config.{Config, IsConfig}
 use Rattle.rb_script_types.specs.declared.config.ClientConfig.{ClientConfig}
 use Rattle.rb_core.specs.Core.{Core, Room, room_of, state_in, HasOwnRoom, IsReady, IsFold}
-use Rattle.rb_core_model.specs.Begun.{max_begun}
+use Rattle.rb_core_model.specs.Begun.{IsBegun, max_begun}
+use Rattle.rb_core_model.specs.Config.{IsSetUp}
 use Rattle.rb_core_model.specs.Entry.{Logged, log_from}
 use Rattle.rb_core_model.specs.Event.{Event, IsEvent, Window, HostWindow, Asked, SetSeen, HeaderSeen, StoredSeen, Sent, Received, AckWritten, Cleared, Closed, Scanned, Planned, Settled}
 use Rattle.rb_core_state.specs.Room.{ClientWithRoom, PathWithRoom, clients_of, HasSettleRoom}
 use Rattle.rb_core_model.specs.Judged.{Ready}
 use Rattle.rb_core.specs.State.{state_view, HasRoom}
-use Rattle.rb_core_model.specs.Machine.{State, opening, state_of, refusal_of}
-use Rattle.rb_core_model.specs.Snapshot.{ClientSnapshot, Log, nothing, from_nothing}
+use Rattle.rb_core_model.specs.Machine.{State, begun, opening, state_of, refusal_of}
+use Rattle.rb_core_model.specs.Snapshot.{ClientSnapshot, Snapshot, Log, nothing}
 use Rattle.rb_core_model.specs.Standing.{OpenBatch, ClientState}
 use Rattle.rb_core.specs.declared.state.CoreState.{CoreState}
 use Rattle.rb_core_model.proofs.Logs.{states_of_logs}
@@ -147,14 +148,13 @@ module _ {A : Type 0} where
       }
 
 -- before the first event
+pub begun_fold : (config : Config) (start : Snapshot) (s : State) (xs : List Logged) → IsSetUp config → IsBegun config start → s ≡ begun config start → xs ≡ [] → IsFold config (log_from config start xs) s
+begun_fold config start s xs set_up may_begin state none =
+    let first : IsFold config (record { start = start; events = [] }) s = record { state = state; set_up = set_up; begun = may_begin; events = All-nil IsEvent; accepted = refl } in
+    subst (λ (ys : List Logged). IsFold config (log_from config start ys) s) (sym none) first
+
 pub new_fold : (config : Config) (s : State) (xs : List Logged) → IsConfig config → All (λ (client : ClientConfig). IsFeeTable client.fees) config.clients
     → s ≡ opening config → xs ≡ [] → IsFold config (log_from config nothing xs) s
 new_fold config s xs rules fees state none =
-    let first : IsFold config (from_nothing []) s = record {
-      state = state;
-      set_up = record { rules = rules; fees = fees };
-      begun = record { earlier = []; events = All-nil (All IsEvent); is = refl; few = All-nil (λ (x : ClientSnapshot). x.batches ≤ max_begun) };
-      events = All-nil IsEvent;
-      accepted = refl;
-    } in
-    subst (λ (ys : List Logged). IsFold config (log_from config nothing ys) s) (sym none) first
+    begun_fold config nothing s xs (record { rules = rules; fees = fees })
+    (record { first = nothing; fits = inl refl; earlier = []; events = All-nil (All IsEvent); is = refl; few = All-nil (λ (x : ClientSnapshot). x.batches ≤ max_begun) }) state none

@@ -1,3 +1,4 @@
 pub mod State
 pub mod Core
 pub mod Follower
+pub mod Snapshot

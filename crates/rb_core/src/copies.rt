@@ -26,7 +26,10 @@ use std::sync::Arc;
 /// The most batches that a client may have opened where a core begins anew.
 const MAX_BEGUN: u64 = 1 << 62;
 
-fn new_plans<A: Allocator + Copy>(alloc: A, clients: usize) -> Result<Vec<usize, A>, AllocError>
+pub(crate) fn new_plans<A: Allocator + Copy>(
+    alloc: A,
+    clients: usize,
+) -> Result<Vec<usize, A>, AllocError>
     ensures { IfOk result (λ plans. plans.items ≡ replicate clients 0) }
 {
     let mut plans = Vec::with_capacity(alloc, clients)?;
@@ -36,7 +39,10 @@ fn new_plans<A: Allocator + Copy>(alloc: A, clients: usize) -> Result<Vec<usize,
     Ok(plans)
 }
 
-fn new_scans<A: Allocator + Copy>(alloc: A, paths: usize) -> Result<Vec<Scans<A>, A>, AllocError>
+pub(crate) fn new_scans<A: Allocator + Copy>(
+    alloc: A,
+    paths: usize,
+) -> Result<Vec<Scans<A>, A>, AllocError>
     ensures { IfOk result (λ scans. scans.items ≡ replicate paths no_scans) }
 {
     let mut scans = Vec::with_capacity(alloc, paths)?;
@@ -157,7 +163,7 @@ pub(crate) fn floors_of<A: Allocator + Copy>(
 }
 
 /// Whether no client has opened too many batches to begin anew.
-fn are_few<A: Allocator>(clients: &[ClientState<A>]) -> bool
+pub(crate) fn are_few<A: Allocator>(clients: &[ClientState<A>]) -> bool
     ensures { result ≡ list_all (λ (h : ClientWithRoom). nat_le h.client.batches max_begun) clients.now }
 {
     clients.iter().all(|client| client.batches() <= MAX_BEGUN)

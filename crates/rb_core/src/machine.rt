@@ -1,10 +1,12 @@
 //! The relayer state machine.
-ghost use Rattle.std.specs.Prelude.{◌≡◌, ◌∷◌, [], All, length, Some, IfOk, IfErr};
+ghost use Rattle.std.specs.Prelude.{◌≡◌, ◌∷◌, [], All, length, Some, IfOk, IfErr, IfSome};
 ghost use Rattle.std.specs.Option.{option_copied};
 ghost use Rattle.rb_script_types.specs.Config.{config_view, IsConfig};
 ghost use Rattle.rb_core_model.specs.Config.{IsSetUp};
-ghost use Rattle.rb_core.specs.Core.{state_in, refusal_in, IsReady};
+ghost use Rattle.rb_core.specs.Core.{state_in, refusal_in, IsFold, IsReady};
 ghost use Rattle.rb_core.specs.Follower.{IsOfLog, log_in};
+ghost use Rattle.rb_core.specs.Snapshot.{snapshot_view};
+ghost use Rattle.rb_core.specs.State.{standing_view, state_view};
 ghost use Rattle.rb_core_model.specs.Begun.{IsBegun};
 ghost use Rattle.rb_core_model.specs.Entry.{log_from};
 ghost use Rattle.rb_core_model.specs.Event.{IsEvent};
@@ -24,6 +26,7 @@ use crate::copies::{anew, copy_state, floors_of, has_many_to_forget, new_state, 
 use crate::follower::Follower;
 use crate::judging::{make_ready, make_ready_accepted, take_in};
 use crate::path_views::{is_scanned, path_view};
+use crate::snapshot::{Snapshot, known_in, restored_state};
 use crate::state::CoreState;
 use rb_base::Part;
 use rb_book::SharedBook;
@@ -87,6 +90,35 @@ impl<A: Allocator + Copy> Core<A> {
             state,
             log: Vec::new(alloc),
         })
+    }
+
+    /// A core that begins with what a snapshot tells. None where it doesn't fit: it hasn't as many books,
+    /// clients and paths as the configuration, stored heights of a client or the heights of its open batch's
+    /// updates have no record, sequences of a path don't rise, a message stands twice in an open batch, isn't
+    /// for its client, or was settled. `AllocError` where memory is refused, or something has as many owners
+    /// as can be counted; the configuration is given up then.
+    pub fn restored(
+        alloc: A,
+        config: Config<A>,
+        snapshot: &Snapshot<A>,
+    ) -> Result<Option<Core<A>>, AllocError>
+        requires { IsConfig (config_view config) }
+        ensures config { IfOk result (λ found. IfSome found (λ core. core.config ≡ config_view config)) }
+        ensures log { IfOk result (λ found. IfSome found (λ core. core.log ≡ record { start = snapshot_view snapshot.now; events = [] })) }
+    {
+        let Some(state) = restored_state(alloc, &config, snapshot)? else {
+            return Ok(None);
+        };
+        fee_tables(config.clients.as_slice());
+        Ok(Some(Core::begun_in(alloc, config, state)?))
+    }
+
+    /// What is known. The books are shared. `AllocError` where memory is refused, or a book has as many owners
+    /// as can be counted.
+    pub fn snapshot(&self) -> Result<Snapshot<A>, AllocError>
+        ensures { IfOk result (λ snapshot. snapshot_view snapshot ≡ snapshot_of (state_in self.now).standing) }
+    {
+        known_in(self.alloc, &self.state)
     }
 
     /// An equal core: with the same configuration and the same log. Its books are shared with this
@@ -159,6 +191,15 @@ impl<A: Allocator + Copy> Core<A> {
             ..
         } = self;
         let state = anew(alloc, &config, state)?;
+        Core::begun_in(alloc, config, state)
+    }
+
+    /// A core whose log begins with what is known in a state.
+    fn begun_in(alloc: A, config: Config<A>, state: CoreState<A>) -> Result<Core<A>, AllocError>
+        requires { IsFold (config_view config) (record { start = snapshot_of (standing_view state); events = [] }) (state_view state) }
+        ensures config { IfOk result (λ core. core.config ≡ config_view config) }
+        ensures log { IfOk result (λ core. core.log ≡ record { start = snapshot_of (standing_view state); events = [] }) }
+    {
         let begun = Arc::new(alloc, copy_state(alloc, &state)?)?;
         Ok(Core {
             alloc,

@@ -16,7 +16,10 @@ use rb_script_types::{PathConfig, Refusal};
 use std::alloc::Allocator;
 
 /// A path, if there is one at this place.
-fn find_path<A: Allocator + Copy>(state: &CoreState<A>, path: usize) -> Option<&PathState<A>>
+pub(crate) fn find_path<A: Allocator + Copy>(
+    state: &CoreState<A>,
+    path: usize,
+) -> Option<&PathState<A>>
     ensures { let found = slice_get (standing_view state.now).paths path
         in MatchOption result (found ≡ None) (λ path_state. found ≡ Some path_state.now.path) }
 {

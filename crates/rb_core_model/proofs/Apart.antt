@@ -16,7 +16,7 @@ use Rattle.rb_scan.specs.declared.path.Order.{Order}
 use Rattle.rb_scan.specs.declared.path.Order.TheVariants.{Ordered, Unordered}
 use Rattle.rb_base.specs.declared.gate.Part.{Part}
 use Rattle.rb_base.specs.declared.gate.Part.TheVariants.{Packets, Channel}
-use Rattle.rb_core_model.specs.Batches.{AreApart}
+use Rattle.rb_core_model.specs.Fits.{AreApart}
 use Rattle.rb_core_model.specs.Config.{part_for}
 use Rattle.rb_core_model.specs.Standing.{PathState, Standing, view_of_path, owed_at, path_task, path_tasks}
 use Rattle.rb_plan_client.specs.Task.{Task, PathTask, Message, message_on, bars_of, going_by, going_on, ready_on}

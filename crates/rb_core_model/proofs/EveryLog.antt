@@ -16,10 +16,11 @@ use Rattle.rb_scan.specs.declared.message.Kind.{Kind}
 use Rattle.rb_step.specs.Laws.{ViewsAreOrderly}
 use Rattle.rb_step.specs.View.{IsView}
 use Rattle.rb_script_types.specs.Config.{Config}
-use Rattle.rb_core_model.specs.Batches.{Carries, AreApart, MessagesAreInOneBatch, MessagesStandOnce, SettledMessagesAreGone}
+use Rattle.rb_core_model.specs.Batches.{Carries, MessagesAreInOneBatch, MessagesStandOnce, SettledMessagesAreGone}
 use Rattle.rb_core_model.specs.Begun.{IsBegun}
 use Rattle.rb_core_model.specs.Config.{IsSetUp, part_for}
 use Rattle.rb_core_model.specs.Event.{Event, IsEvent, Settled}
+use Rattle.rb_core_model.specs.Fits.{AreApart}
 use Rattle.rb_core_model.specs.Machine.{State, begun, job_of, accepted, after, state_of}
 use Rattle.rb_core_model.specs.Snapshot.{Log, followed_by}
 use Rattle.rb_core_model.specs.Standing.{ClientState, Standing, book_at, view_of_path, after_settled, after_messages, settled_messages}

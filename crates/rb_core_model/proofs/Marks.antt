@@ -11,6 +11,7 @@ use Rattle.rb_scan.specs.declared.message.Kind.TheVariants.{Receive, Acknowledge
 use Rattle.rb_scan.specs.declared.message.PacketMsg.{PacketMsg}
 use Rattle.rb_base.specs.declared.gate.Part.{Part}
 use Rattle.rb_base.specs.declared.gate.Part.TheVariants.{Packets, Channel}
+use Rattle.rb_core_model.specs.Fits as fits
 use Rattle.rb_core_model.specs.Standing.{PathState, changed_at, marked, with_mark, with_packet, mark_of, after_message, after_messages}
 use Rattle.rb_plan_client.specs.Task.{Message}
 use Rattle.rb_core_model.proofs.Options.{chained, get_changed_same, get_changed_other}
@@ -77,14 +78,11 @@ find_map g same s (p ∷ ps) = ap (λ n. cond (eqb n s) (Some (g p)) (find (has 
 -- ---- marks
 
 abbrev pub part_of : Kind → Part
-part_of Receive = Packets
-part_of Acknowledge = Channel
-part_of Timeout = Channel
+part_of = fits.part_of
 
 -- the message of that part for the packet is settled
 abbrev pub is_settled : Part → Packet → Bool
-is_settled Packets q = q.receive_settled
-is_settled Channel q = q.outcome_settled
+is_settled = fits.is_settled
 
 abbrev pub mark_in : List Packet → Part → ℕ → Option Bool
 mark_in ps part s = option_map (is_settled part) (find (has s) ps)

@@ -32,7 +32,7 @@ use Rattle.rb_core_model.specs.Machine.{State, opening, refusal_of, accepted, af
 use Rattle.rb_script_types.specs.declared.refusal.Refusal.{Refusal}
 use Rattle.rb_core_model.specs.Standing.{OpenBatch, ClientState, PathState, Standing, empty_book, new_client, opening_standing, book_at, tracked, view_of_path, task_of, task_in, changed, with_book, with_client, with_path, with_height, with_packet, new_packet, with_mark, batch_opened, with_batch, after_answer, after_batch, settled_updates, settled_messages, sent_refusal, in_host_window}
 use Rattle.rb_plan_client.specs.Task.{view_of}
-use Rattle.rb_core_model.specs.Batches.{AreApart}
+use Rattle.rb_core_model.specs.Fits.{AreApart}
 use Rattle.rb_core_model.proofs.Apart.{messages_apart}
 use Rattle.rb_book.proofs.Rising.{Up, Up-from_increasing}
 use Rattle.rb_core_model.proofs.Drafted.{drafted}

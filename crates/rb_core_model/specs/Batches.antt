@@ -16,6 +16,7 @@ use Rattle.rb_core_model.specs.Begun.{IsBegun}
 use Rattle.rb_core_model.specs.Config.{IsSetUp}
 use Rattle.rb_plan_client.specs.Draft.{Draft, IsDraft, IsCut}
 use Rattle.rb_core_model.specs.Event.{Event, IsEvent, Planned, Settled}
+use Rattle.rb_core_model.specs.Fits.{AreApart}
 use Rattle.rb_core_model.specs.Machine.{Opened, refusal_of, reply_of, after, state_of}
 use Rattle.rb_core_model.specs.Snapshot.{Log, followed_by}
 use Rattle.rb_plan_client.specs.Reach.{IsReach}
@@ -85,10 +86,6 @@ MessagesAreInOneBatch =
     → (client other path : ℕ) (kind : Kind) (sequence : ℕ)
     → Carries (state_of config log).standing client path kind sequence → Carries (state_of config log).standing other path kind sequence
     → client ≡ other
-
--- two messages are for different paths, of different kinds, or for different packets
-abbrev pub AreApart : Message → Message → Type 0
-AreApart m n = (m.path ≡ n.path) × (m.packet.kind ≡ n.packet.kind) × (m.packet.sequence ≡ n.packet.sequence) → ⊥
 
 -- no message stands twice in an open batch
 abbrev pub MessagesStandOnce : Type 0

@@ -8,6 +8,7 @@ pub mod Snapshot
 pub mod Machine
 pub mod Over
 pub mod Forgetting
+pub mod Fits
 pub mod Begun
 pub mod Batches
 pub mod Examples

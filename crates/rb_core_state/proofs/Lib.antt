@@ -8,3 +8,4 @@ pub mod Stored
 pub mod Found
 pub mod Lowest
 pub mod Forgotten
+pub mod Told

@@ -1,3 +1,4 @@
 pub mod Floors
 pub mod Marked
 pub mod Room
+pub mod Known

@@ -1,15 +1,18 @@
 //! The state of one client.
-ghost use Rattle.std.specs.Prelude.{◌≡◌, ◌==◌, ◌≤◌, ◌<◌, ◌+◌, ℕ, filter, fold, length, nat_le, nat_lt, Some, None, IfOk, OnOk, is_some, vec_len, vec_capacity};
+ghost use Rattle.std.specs.Prelude.{◌≡◌, ◌==◌, ◌≤◌, ◌<◌, ◌+◌, ◌↔◌, ℕ, filter, fold, length, nat_le, nat_lt, Some, None, IfOk, IfSome, IsTrue, OnOk, is_some, vec_len, vec_capacity};
 ghost use Rattle.std.specs.List.Sorted.{IsStrictlyIncreasing};
 ghost use Rattle.std.specs.Option.{option_map, option_map_or, option_copied};
 ghost use Rattle.rb_core_model.specs.Begun.{max_begun};
 ghost use Rattle.rb_core_model.specs.Limits.{max_events};
 ghost use Rattle.rb_book.specs.Search.{IsPlace};
 ghost use Rattle.rb_step.specs.LightClient.{Update};
+ghost use Rattle.rb_core_model.specs.Snapshot.{client_from, snapshot_of_client};
 ghost use Rattle.rb_core_model.specs.Standing as standings;
 ghost use Rattle.rb_core_model.specs.Standing.{new_client, in_host_window, goes_back, goes_back_on, window_for, open_batch, settled_refusal, with_height, batch_opened, after_answer};
+ghost use Rattle.rb_core_state.specs.Known.{known_client};
 
 use crate::opened::{OpenBatch, batch_of};
+use crate::snapshot::ClientSnapshot;
 use rb_base::{Height, Window};
 use rb_plan_client::Planned;
 use rb_plan_types::Update;
@@ -70,6 +73,13 @@ impl<A: Allocator> ClientState<A> {
         }
     }
 
+    /// The window of the client's host, where that has one of its own.
+    pub fn own_window(&self) -> Option<Window>
+        ensures { result ≡ self.now.client.window }
+    {
+        self.window
+    }
+
     /// The client's configuration.
     pub fn config(&self) -> &ClientConfig
         ensures { result.now ≡ self.now.client.config }
@@ -117,7 +127,7 @@ impl<A: Allocator> ClientState<A> {
     }
 
     /// The client's open batch; None where none is open.
-    pub(crate) fn batch(&self) -> Option<&OpenBatch<A>>
+    pub fn batch(&self) -> Option<&OpenBatch<A>>
         ensures { option_copied result ≡ self.now.client.batch }
     {
         self.batch.as_ref()
@@ -239,6 +249,16 @@ impl<A: Allocator> ClientState<A> {
     }
 }
 
+fn rise(heights: &[Height]) -> bool
+    ensures { IsTrue result ↔ IsStrictlyIncreasing heights.now }
+{
+    heights.is_sorted_by(
+        |lower: &Height, higher: &Height| -> bool
+            ensures { result ≡ nat_lt lower.now higher.now }
+        { lower < higher },
+    )
+}
+
 /// The place of a height among rising ones, or else the place where it belongs.
 fn place(heights: &[Height], height: Height) -> Result<usize, usize>
     requires { IsStrictlyIncreasing heights.now }
@@ -303,5 +323,39 @@ impl<A: Allocator + Copy> ClientState<A> {
             batches: self.batches,
             batch: copy_batch(&self.batch)?,
         })
+    }
+    /// What is known of the client, on the same allocator. `AllocError` where memory is refused.
+    pub(crate) fn snapshot(&self) -> Result<ClientSnapshot<A>, AllocError>
+        ensures { IfOk result (λ known. known_client known ≡ snapshot_of_client self.now.client) }
+    {
+        Ok(ClientSnapshot {
+            window: self.own_window(),
+            stored: Vec::from_slice(*self.stored.allocator(), self.stored.as_slice())?,
+            asked: self.asked,
+            batches: self.batches,
+            batch: copy_batch(&self.batch)?,
+        })
+    }
+
+    /// The state of a client with this configuration of which this is known; None where its stored heights
+    /// don't rise. `AllocError` where memory is refused.
+    pub(crate) fn restored(
+        alloc: A,
+        config: ClientConfig,
+        known: &ClientSnapshot<A>,
+    ) -> Result<Option<ClientState<A>>, AllocError>
+        ensures { IfOk result (λ found. IfSome found (λ state. state.client ≡ client_from config (known_client known.now))) }
+    {
+        if !rise(known.stored.as_slice()) {
+            return Ok(None);
+        }
+        Ok(Some(ClientState {
+            config,
+            window: known.window,
+            stored: Vec::from_slice(alloc, known.stored.as_slice())?,
+            asked: known.asked,
+            batches: known.batches,
+            batch: copy_batch(&known.batch)?,
+        }))
     }
 }

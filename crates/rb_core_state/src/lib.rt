@@ -1,7 +1,7 @@
 //! The parts of the relayer state machine's state: the light store of each chain, which may be shared
 //! (`books`), clients with the heights that they have stored and their open batches (`clients`), and
-//! paths with their packets (`paths`, `views`); and the floors of the chains, below which nothing is
-//! needed any more (`floors`).
+//! paths with their packets (`paths`, `views`); what is known of both, as plain data (`snapshot`); and the
+//! floors of the chains, below which nothing is needed any more (`floors`).
 //!
 //! Chains, clients and paths are named by their places in the script. A change comes in three calls: a
 //! `refuse_` call says why it would be refused, a `make_` or `set_apart` call makes room for it, and a
@@ -19,6 +19,7 @@ mod packets;
 mod path;
 pub mod paths;
 mod settling;
+pub mod snapshot;
 pub mod views;
 
 pub use client::{ClientState, goes_back};
@@ -26,3 +27,4 @@ pub use mark::Mark;
 pub use opened::OpenBatch;
 pub use path::PathState;
 pub use settling::settled_messages;
+pub use snapshot::{ClientSnapshot, PathSnapshot};

@@ -30,7 +30,7 @@ impl<A: Allocator> Model for OpenBatch<A> {
 
 impl<A: Allocator> OpenBatch<A> {
     /// The batch with this number, of these updates and messages.
-    pub(crate) fn new(
+    pub fn new(
         number: u64,
         updates: Vec<Update, A>,
         messages: Vec<Message, A>,

@@ -6,10 +6,11 @@ ghost use Rattle.rb_book.specs.Search.{IsKnownPlace, IsPlace};
 ghost use Rattle.rb_scan.specs.Packet.{Packet, is_finished};
 ghost use Rattle.rb_scan.specs.Path.{sequences_of};
 ghost use Rattle.rb_core_state.specs.Marked.{mark_by};
+ghost use Rattle.rb_core_model.specs.Fits.{is_settled, part_of};
 ghost use Rattle.rb_core_model.specs.Standing.{marked};
 
 use crate::mark::Mark;
-use rb_scan::Packet;
+use rb_scan::{Kind, Packet};
 use std::alloc::Allocator;
 
 /// The place of the packet with this sequence, where it is as far from the first packet as its sequence
@@ -77,5 +78,27 @@ pub(crate) fn put_mark<A: Allocator>(packets: &mut Vec<Packet, A>, sequence: u64
 {
     if let Ok(place) = place(packets.as_slice(), sequence) {
         packets[place] = mark.put(packets[place]);
+    }
+}
+
+fn is_receive_settled(packet: &Packet) -> bool
+    ensures { result ≡ packet.now.receive_settled }
+{
+    *packet == packet.with_receive_settled()
+}
+
+fn is_outcome_settled(packet: &Packet) -> bool
+    ensures { result ≡ packet.now.outcome_settled }
+{
+    *packet == packet.with_outcome_settled()
+}
+
+/// Whether a packet's message of this kind was settled.
+pub(crate) fn was_settled(packet: &Packet, kind: Kind) -> bool
+    ensures { result ≡ is_settled (part_of kind) packet.now }
+{
+    match kind {
+        Kind::Receive => is_receive_settled(packet),
+        Kind::Acknowledge | Kind::Timeout => is_outcome_settled(packet),
     }
 }

@@ -1,5 +1,5 @@
 //! The state of one path.
-ghost use Rattle.std.specs.Prelude.{◌≡◌, ◌+◌, ◌<◌, ◌≤◌, ◌==◌, [], length, find, Some, None, true, OnOk, IfOk};
+ghost use Rattle.std.specs.Prelude.{◌≡◌, ◌+◌, ◌<◌, ◌≤◌, ◌==◌, ◌↔◌, IsTrue, [], length, find, Some, None, true, OnOk, IfOk, IfSome};
 ghost use Rattle.std.specs.List.Sorted.{IsStrictlyIncreasing};
 ghost use Rattle.std.specs.Option.{option_copied};
 ghost use Rattle.rb_scan.specs.Owed.{packet_at};
@@ -9,13 +9,17 @@ ghost use Rattle.rb_core_state.specs.Room.{next_among};
 ghost use Rattle.rb_core_state.specs.Marked.{mark_by};
 ghost use Rattle.rb_core_model.specs.Over.{gone_in, rest_of_path};
 ghost use Rattle.rb_core_model.specs.Refusal.{refused_if};
+ghost use Rattle.rb_core_model.specs.Fits.{IsOpenOn};
+ghost use Rattle.rb_core_model.specs.Snapshot.{path_from, snapshot_of_path};
 ghost use Rattle.rb_core_model.specs.Standing.{max_packets, view_of_path, new_path, sent_refusal, comes_early, received_refusal, written_refusal, cleared_refusal, with_packet, with_mark, after_message};
+ghost use Rattle.rb_core_state.specs.Known.{known_path};
 
 use crate::mark::Mark;
 use crate::over::{gone_from, later};
-use crate::packets::{is_finished, packet, place, put_mark};
+use crate::packets::{is_finished, packet, place, put_mark, was_settled};
+use crate::snapshot::PathSnapshot;
 use rb_base::Height;
-use rb_scan::{Kind, Order, Packet, PacketMsg, Sequence};
+use rb_scan::{Kind, Order, Packet, PacketMsg, Sequence, is_path};
 use rb_script_types::{PathConfig, Refusal};
 use std::alloc::{AllocError, Allocator, Global};
 use std::marker::Model;
@@ -210,6 +214,19 @@ impl<A: Allocator> PathState<A> {
         None
     }
 
+    /// Whether a message's packet is there and that message of it wasn't settled, or the packet was forgotten.
+    pub fn is_open(&self, message: PacketMsg) -> bool
+        ensures { IsTrue result ↔ IsOpenOn self.now.path message }
+    {
+        if message.sequence < self.first {
+            return true;
+        }
+        match self.packet(message.sequence) {
+            Some(packet) => !was_settled(packet, message.kind),
+            None => false,
+        }
+    }
+
     /// Makes room for one more packet. `AllocError` where memory is refused.
     pub(crate) fn make_room(&mut self) -> Result<(), AllocError>
         ensures same { self.new.path ≡ self.old.path }
@@ -303,5 +320,37 @@ impl<A: Allocator + Copy> PathState<A> {
             run: self.run,
             closed: self.closed,
         })
+    }
+    /// What is known of the path, on the same allocator. `AllocError` where memory is refused.
+    pub(crate) fn snapshot(&self) -> Result<PathSnapshot<A>, AllocError>
+        ensures { IfOk result (λ known. known_path known ≡ snapshot_of_path self.now.path) }
+    {
+        Ok(PathSnapshot {
+            first: self.first,
+            packets: Vec::from_slice(*self.packets.allocator(), self.packets.as_slice())?,
+            closed: self.closed,
+        })
+    }
+
+    /// The state of a path with this configuration of which this is known; None where its sequences don't
+    /// rise from the first one on, or it has over 4,096 packets. `AllocError` where memory is refused.
+    pub(crate) fn restored(
+        alloc: A,
+        config: PathConfig,
+        known: &PathSnapshot<A>,
+    ) -> Result<Option<PathState<A>>, AllocError>
+        ensures { IfOk result (λ found. IfSome found (λ state. state.path ≡ path_from config (known_path known.now))) }
+    {
+        let packets = known.packets.as_slice();
+        if packets.len() > MAX_PACKETS || !is_path(known.first, packets, &[]) {
+            return Ok(None);
+        }
+        Ok(Some(PathState {
+            config,
+            first: known.first,
+            packets: Vec::from_slice(alloc, packets)?,
+            run: 0,
+            closed: known.closed,
+        }))
     }
 }

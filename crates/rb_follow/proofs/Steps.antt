@@ -2,6 +2,8 @@
 use Rattle.std.proofs.Common.{◌≡◌, ℕ, ◌+◌, ◌<◌, ◌≤◌, Bool, true, false, List, [], Option, Result, Ok, Err, IfOk, OnOk, refl, sym, ap, subst, ◌∙◌, arith}
 use Rattle.std.specs.declared.alloc.Global.{Global}
 use Rattle.rb_core.specs.Core.{Core, state_in}
+use Rattle.rb_core_model.specs.Event.{Event}
+use Rattle.rb_core_model.specs.Machine.{state_of}
 use Rattle.rb_core_model.specs.Forgetting.{floors_of, rest_at_floors}
 use Rattle.rb_core_model.specs.Limits.{max_events}
 use Rattle.rb_core_model.specs.Snapshot.{from_nothing}
@@ -50,6 +52,10 @@ pub begins_in_order : (c : Config) (core : Core) (paths : List (List ℕ)) → c
 begins_in_order c core paths config log are =
     let opened = opened_front core log in
     record { config = config; paths_are = are; few_turns = omega arith; front = omega arith; few_events = omega arith }
+
+-- a relayer that goes on from a state
+pub restored_front : (core : Core) → core.log.events ≡ [] → (state_in core).front ≡ 0
+restored_front core none = ap (λ (events : List Event). (state_of core.config (record { start = core.log.start; events = events })).front) none
 
 -- ---- a turn
 

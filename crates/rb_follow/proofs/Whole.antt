@@ -18,7 +18,7 @@ use Rattle.rb_follow.specs.Documents.{Document, documents}
 use Rattle.rb_follow.specs.Followers.{Following, begun_with, beginning}
 use Rattle.rb_follow.specs.Answers.{head_text, end_text}
 use Rattle.rb_follow.specs.Journals.{outs}
-use Rattle.rb_follow.specs.Headline.{Answered, answers_text, Told, BeginsTelling, IsFollowed, Follows, BeginsFollowing}
+use Rattle.rb_follow.specs.Headline.{Answered, answers_text, Told, BeginsTelling, IsFollowed, Follows, BeginsFollowing, GoesOn}
 use Rattle.rb_follow.proofs.LawsLemmas.{answers_reports}
 use Rattle.rb_follow.proofs.Telling.{stores_none, answered-none}
 use Rattle.rb_text_report.proofs.Beginnings.{appends-then, beginning-first, beginning-then}
@@ -152,3 +152,20 @@ follows-end form setup f (Some bytes) old mid last new before after g b h t e =
       begun = beginning-then old mid new (head_text form c.version) (answers_text form c told.all.answers ++ end_text form) head
           (beginning-then mid last new (answers_text form c told.all.answers) (end_text form) told.written e);
     }
+
+-- ---- a run that goes on
+
+pub goes-on : (form : Form) (setup : List ℕ) (f : Following) (known : Option (List ℕ)) (old mid last new : Option (List ℕ)) (before after : Option (List (List ℕ))) (g : Following)
+    → setup_of setup ≡ Ok f.config → Appends old mid (head_text form f.config.version)
+    → IfSome known (λ (bytes : List ℕ). Told form f (documents bytes) (outs mid before) (outs last after) g) → Appends last new (end_text form)
+    → IfSome known (λ (bytes : List ℕ). GoesOn form setup bytes (outs old before) (outs new after))
+goes-on form setup f None old mid last new before after g read h t e = tt
+goes-on form setup f (Some bytes) old mid last new before after g read h t e = record {
+  start = f;
+  read = read;
+  last = g;
+  all = t.all;
+  stored = t.stored;
+  written = appends-then old mid new (head_text form f.config.version) (answers_text form f.config t.all.answers ++ end_text form) h
+      (appends-then mid last new (answers_text form f.config t.all.answers) (end_text form) t.written e);
+}

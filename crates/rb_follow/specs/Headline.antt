@@ -117,3 +117,14 @@ pub record BeginsFollowing (form : Form) (setup input : List ℕ) (old new : Out
   pub followed : IsFollowed setup first config answers
   pub stored : StoresAll old.stored new.stored (accepted first answers)
   pub begun : AppendsBeginning old.taken new.taken (followed_text form config answers)
+
+-- ---- a run that goes on
+
+-- The same of a run that goes on from a state of this setup: each answer is that of a follower that goes on from it.
+pub record GoesOn (form : Form) (setup input : List ℕ) (old new : Outs) : Type 0 where
+  pub start : Following
+  pub read : setup_of setup ≡ Ok start.config
+  pub last : Following
+  pub all : Answered start (documents input) last
+  pub stored : StoresAll old.stored new.stored (accepted (documents input) all.answers)
+  pub written : Appends old.taken new.taken (followed_text form start.config all.answers)

@@ -1,9 +1,11 @@
 //! Who leads a relayer through turns.
 ghost use Rattle.std.specs.Prelude.{◌≡◌, ◌≤◌, [], IfOk};
 ghost use Rattle.rb_core.specs.Core.{state_in};
+ghost use Rattle.rb_core_model.specs.Config.{IsSetUp};
 ghost use Rattle.rb_core_model.specs.Forgetting.{floors_of, has_many_to_forget, rest_at_floors};
 ghost use Rattle.rb_core_model.specs.Over.{firsts_of};
-ghost use Rattle.rb_core_model.specs.Snapshot.{from_nothing};
+ghost use Rattle.rb_core.specs.Snapshot.{snapshot_view};
+ghost use Rattle.rb_core_model.specs.Snapshot.{from_nothing, snapshot_of};
 ghost use Rattle.rb_script_types.specs.Config.{config_view, IsConfig};
 ghost use Rattle.rb_super_turn.specs.Turns.{IsTurnReport, after_turn};
 ghost use Rattle.rb_super_turn.specs.Phases.{standing_in, HasLogRoom, IsLater};
@@ -12,6 +14,7 @@ ghost use Rattle.rb_super_scripts.specs.AsEvents.{code_turn_as_events, IsTurnFor
 ghost use Rattle.rb_follow.specs.Drivers.{core_of};
 
 use rb_base::Gate;
+use rb_core::{Core, Snapshot};
 use rb_script_types::{Config, Turn};
 use rb_super::{ParallelSupervisor, Supervisor};
 use rb_super_turn::{Crew, TurnReport};
@@ -50,6 +53,61 @@ impl<G: Gate + Send + Sync + Drop + 'static> Driver<G> {
             Team::start(rt, alloc, desks, gate)
         })?;
         Ok(Driver::WithWorkers(supervisor))
+    }
+
+    /// A relayer that has taken in what a core has, as `Driver::new`.
+    pub fn over<R: Threads + Wait + Copy + Send + Sync + 'static>(
+        rt: &R,
+        alloc: Global,
+        core: Core,
+        workers: usize,
+        gate: &Arc<G, Global>,
+    ) -> Result<Driver<G>, AllocError>
+        requires workers { workers ≤ 64 }
+        ensures config { IfOk result (λ d. (core_of d).config ≡ core.config) }
+        ensures log { IfOk result (λ d. (core_of d).log ≡ core.log) }
+    {
+        if workers == 0 {
+            let supervisor = Supervisor::over(alloc, core)?;
+            return Ok(Driver::Alone(supervisor));
+        }
+        let supervisor = ParallelSupervisor::over(rt, alloc, core, workers, |desks| {
+            Team::start(rt, alloc, desks, gate)
+        })?;
+        Ok(Driver::WithWorkers(supervisor))
+    }
+
+    /// What the relayer was set up with.
+    pub fn config(&self) -> &Config
+        ensures value { config_view result.now ≡ (core_of self.now).config }
+        ensures set_up { IsSetUp (core_of self.now).config }
+    {
+        match self {
+            Driver::Alone(supervisor) => supervisor.core().config(),
+            Driver::WithWorkers(supervisor) => supervisor.config(),
+        }
+    }
+
+    /// What a relayer goes on from, as `Core::snapshot`.
+    pub fn snapshot(&self) -> Result<Snapshot, AllocError>
+        ensures { IfOk result (λ snapshot. snapshot_view snapshot ≡ snapshot_of (standing_in (core_of self.now))) }
+    {
+        match self {
+            Driver::Alone(supervisor) => supervisor.core().snapshot(),
+            Driver::WithWorkers(supervisor) => supervisor.snapshot(),
+        }
+    }
+
+    /// The number of the open batch of a client; 0 where none is open.
+    pub fn open_batch(&self, client: usize) -> u64 {
+        let batch = match self {
+            Driver::Alone(supervisor) => supervisor.core().open_batch(client),
+            Driver::WithWorkers(supervisor) => supervisor.open_batch(client),
+        };
+        match batch {
+            Some(batch) => batch.number(),
+            None => 0,
+        }
     }
 
     /// Leads the relayer through a turn; tells its report. An error comes only where a growth is refused, also

@@ -1,16 +1,17 @@
 //! A follower of turns.
-ghost use Rattle.std.specs.Prelude.{◌≡◌, ◌<◌, ◌≤◌, ◌+◌, Ok, IfOk, IfErr, OnOk};
+ghost use Rattle.std.specs.Prelude.{◌≡◌, ◌<◌, ◌≤◌, ◌+◌, Ok, IfOk, IfErr, IfSome, OnOk};
 ghost use Rattle.rb_script_types.specs.Script.{turn_view};
 ghost use Rattle.rb_core_model.specs.Config.{IsSetUp};
 ghost use Rattle.rb_core_model.specs.Forgetting.{floors_of};
 ghost use Rattle.rb_core_model.specs.Limits.{max_events};
-ghost use Rattle.rb_script_toml.specs.Faults.{Gives};
+ghost use Rattle.rb_script_toml.specs.Faults.{Gives, Fails};
 ghost use Rattle.rb_script_read.specs.Turns.{reading_view};
 ghost use Rattle.rb_script_read.specs.NextTurns.{next_turn_view, reading_after};
 ghost use Rattle.rb_script_config.specs.Setups.{setup_view};
 ghost use Rattle.rb_script_config.specs.Paths.{path_ids};
 ghost use Rattle.rb_super_scripts.specs.AsEvents.{IsTurnFor};
 ghost use Rattle.rb_super_turn.specs.Phases.{standing_in};
+ghost use Rattle.rb_follow.specs.Setups.{setup_of};
 ghost use Rattle.rb_follow.specs.Followers.{beginning, turn_after, read_turn, next_turn, refusing, number_if, max_turns, most_events, IsAnswerFor, IsAnswer, IsRight, room_again, tidied};
 ghost use Rattle.rb_core.specs.Core.{state_in};
 ghost use Rattle.rb_follow.specs.Drivers.{core_of};
@@ -20,8 +21,10 @@ use crate::answer::{Answer, Refusal};
 use crate::driver::Driver;
 use crate::numbers::{number_text, numbered};
 use crate::setup::{path_ids, read_setup_text};
+use crate::state::{State, read_state, state_text};
 use crate::tidying::{check_spoken, forgets, raise};
 use crate::turns::read_turn_is_turn;
+use crate::words::Unread;
 use rb_base::{ChainId, Gate, PathId};
 use rb_core::MAX_EVENTS;
 use rb_core_model::rules::fee_tables;
@@ -209,6 +212,88 @@ impl<G: Gate + Send + Sync + Drop + 'static> Follower<G> {
             workers,
             gate: owner,
         })
+    }
+
+    /// A follower that goes on from a state, as `Follower::new` else; None where the text tells none that a follower
+    /// which is set up so can be in.
+    pub fn restored<R: Threads + Wait + Copy + Send + Sync + 'static>(
+        rt: &R,
+        alloc: Global,
+        setup: &[u8],
+        state: &str,
+        workers: usize,
+        gate: &Arc<G, Global>,
+    ) -> Result<Option<Follower<G>>, RunError>
+        requires workers { workers ≤ 64 }
+        ensures set_up { IfOk result (IfSome (λ f. setup_of setup.now ≡ Ok (following f).config)) }
+        ensures refused { IfErr result (λ e. Fails e (setup_of setup.now)) }
+    {
+        let (setup, config) = read_setup_text(alloc, setup)?;
+        let paths = path_ids(alloc, config.paths.as_slice())?;
+        let State {
+            core,
+            reading,
+            turns,
+            forgotten,
+        } = match read_state(alloc, config, state) {
+            Ok(state) => state,
+            Err(Unread::Wrong) => return Ok(None),
+            Err(Unread::NoMemory) => return Err(RunError::NoMemory),
+        };
+        if turns > max_turns(setup.version) {
+            return Ok(None);
+        }
+        let owner = Arc::try_clone(gate)?;
+        let driver = Driver::over(rt, alloc, core, workers, gate)?;
+        Ok(Some(Follower {
+            alloc,
+            setup,
+            paths,
+            reading,
+            driver,
+            turns,
+            events: 0,
+            forgotten,
+            workers,
+            gate: owner,
+        }))
+    }
+
+    /// Whether nothing was taken in since it was set up, restored, or forgot.
+    pub(crate) fn is_tidy(&self) -> bool {
+        self.events == 0
+    }
+
+    /// The state of a follower that is tidy, as a text that is read back as it is; None where it isn't.
+    pub(crate) fn state(&self) -> Result<Option<String>, AllocError> {
+        let snapshot = self.driver.snapshot()?;
+        let forgotten = self.forgotten.as_slice();
+        let text = state_text(self.alloc, &snapshot, &self.reading, self.turns, forgotten)?;
+        let config = self.driver.config().copy()?;
+        match read_state(self.alloc, config, text.as_str()) {
+            Ok(_state) => Ok(Some(text)),
+            Err(Unread::Wrong) => Ok(None),
+            Err(Unread::NoMemory) => Err(AllocError),
+        }
+    }
+
+    /// The numbers of the open batches, by client; 0 where none is open.
+    pub(crate) fn open_batches(&self) -> Result<Vec<u64>, AllocError> {
+        let mut batches = Vec::new(self.alloc);
+        for client in 0..self.setup.clients.as_slice().len() {
+            batches.push(self.driver.open_batch(client))?;
+        }
+        Ok(batches)
+    }
+
+    /// Whether one of these batches is still open.
+    pub(crate) fn has_open(&self, batches: &[u64]) -> bool {
+        for (client, batch) in batches.iter().enumerate() {
+            if *batch != 0 && *batch == self.driver.open_batch(client) {
+                return true;
+            }
+        }
+        false
     }
 
     /// The version of the setup.

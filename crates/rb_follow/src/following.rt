@@ -1,5 +1,5 @@
 //! Following an input to its end.
-ghost use Rattle.std.specs.Prelude.{◌≡◌, ◌≤◌, ◌++◌, ◌∷◌, ◌↔◌, ◌⊎◌, List, ℕ, [], true, false, Err, IfOk, IfErr, IfSome, OnOk, OnErr, IsErrOf};
+ghost use Rattle.std.specs.Prelude.{◌≡◌, ◌≤◌, ◌++◌, ◌∷◌, ◌↔◌, ◌⊎◌, List, ℕ, [], true, false, Ok, Err, IfOk, IfErr, IfSome, OnOk, OnErr, IsErrOf};
 ghost use Rattle.std.specs.Io.KnownBytes.{Appends};
 ghost use Rattle.rb_base.specs.Sink.{AppendsBeginning};
 ghost use Rattle.rb_script_config.specs.Paths.{path_ids};
@@ -11,7 +11,7 @@ ghost use Rattle.rb_follow.specs.Documents.{nothing_read, all_read, document, do
 ghost use Rattle.rb_follow.specs.Answers.{answer_view, answer_text, head_text, end_text};
 ghost use Rattle.rb_follow.specs.Journals.{StoresAll, accepted, outs};
 ghost use Rattle.rb_follow.specs.Views.{following};
-ghost use Rattle.rb_follow.specs.Headline.{Told, ToldPiece, BeginsTelling, IsFollowError, Follows, BeginsFollowing};
+ghost use Rattle.rb_follow.specs.Headline.{Told, ToldPiece, BeginsTelling, IsFollowError, Follows, BeginsFollowing, GoesOn};
 
 use crate::answer::{Answer, Refusal};
 use crate::error::FollowError;
@@ -23,7 +23,7 @@ use crate::told::{Form, head, put, put_told};
 use rb_base::{Gate, Sink};
 use rb_script_toml::{Fault, FaultName, RunError, fault_at};
 use rb_super_turn::Crew;
-use std::alloc::Global;
+use std::alloc::{AllocError, Global};
 use std::io;
 use std::io::Read;
 use std::sync::{Arc, Wait};
@@ -139,6 +139,64 @@ where
     }
 }
 
+/// Lets a long journal remember the state of a follower that has forgotten something. The document that comes was written
+/// by who had the answers to those before.
+fn remember<G, J>(follower: &Follower<G>, journal: &mut J) -> Result<(), AllocError>
+where
+    G: Gate + Send + Sync + Drop + 'static,
+    J: Journal,
+    ensures { J.documents journal.new ≡ J.documents journal.old }
+{
+    if !follower.is_tidy() || !journal.is_long() {
+        return Ok(());
+    }
+    let batches = follower.open_batches()?;
+    match follower.state()? {
+        Some(state) => journal.remember(Some(state.as_str()), batches),
+        None => journal.remember(None, batches),
+    }
+    Ok(())
+}
+
+/// Whether a journal remembers a state, and no batch is open any more that is open in it.
+fn is_answered<G, J>(follower: &Follower<G>, journal: &J) -> bool
+where
+    G: Gate + Send + Sync + Drop + 'static,
+    J: Journal,
+{
+    match journal.batches() {
+        Some(batches) => !follower.has_open(batches),
+        None => false,
+    }
+}
+
+/// Begins a journal anew with the state that it remembers, once none of the batches is open that are open in it: so the
+/// journal's turns have the answers to all open batches. Or ends the follower.
+fn renew<R, G, J>(
+    crew: &Crew<R, G>,
+    follower: Follower<G>,
+    journal: &mut J,
+) -> Result<Follower<G>, FollowError>
+where
+    R: Threads + Wait + Copy + Send + Sync + 'static,
+    G: Gate + Send + Sync + Drop + 'static,
+    J: Journal,
+    ensures same { IfOk result (λ g. g ≡ follower) }
+    ensures kept { J.documents journal.new ≡ J.documents journal.old }
+    ensures failed { IfErr result (λ e. IsFollowError e false) }
+{
+    if remember(&follower, journal).is_err() || !is_answered(&follower, journal) {
+        return Ok(follower);
+    }
+    match journal.renew() {
+        Ok(()) => Ok(follower),
+        Err(error) => {
+            follower.stop(crew.rt());
+            Err(FollowError::Journal(error))
+        }
+    }
+}
+
 /// Answers the document that was gathered, after the journal has it.
 fn answer_document<R, G, W, N, J>(
     crew: &Crew<R, G>,
@@ -162,6 +220,7 @@ where
     ensures begun { OnErr result (BeginsTelling teller.now.form (following follower) (document (all_read gathering.old) ∷ []) (outs (W.taken writer.old) (J.documents journal.old)) (outs (W.taken writer.new) (J.documents journal.new))) }
 {
     let document = gathering.document();
+    let follower = renew(crew, follower, journal)?;
     let (follower, answer) = follower.answer(crew, document)?;
     let stored = store(crew, follower, &answer, document, journal)?;
     gathering.clear();
@@ -405,6 +464,71 @@ where
 {
     let crew = Crew::new(rt, workers, &**gate);
     let follower = Follower::new(rt, alloc, setup, workers, gate)?;
+    let follower = begin(rt, follower, form, writer)?;
+    let teller = Teller {
+        alloc,
+        form,
+        watcher,
+    };
+    let follower = answer_all(&crew, follower, input, &teller, journal, writer)?;
+    follower.stop(rt);
+    put_end(form, writer)?;
+    Ok(())
+}
+
+/// The follower that goes on from a state of a journal.
+fn restored<R, G>(
+    rt: &R,
+    alloc: Global,
+    setup: &[u8],
+    state: &str,
+    workers: usize,
+    gate: &Arc<G, Global>,
+) -> Result<Follower<G>, FollowError>
+where
+    R: Threads + Wait + Copy + Send + Sync + 'static,
+    G: Gate + Send + Sync + Drop + 'static,
+    requires { workers ≤ 64 }
+    ensures set_up { IfOk result (λ f. setup_of setup.now ≡ Ok (following f).config) }
+    ensures failed { IfErr result (λ e. IsFollowError e false) }
+{
+    match Follower::restored(rt, alloc, setup, state, workers, gate)? {
+        Some(follower) => Ok(follower),
+        None => Err(FollowError::Journal(io::Error::new(
+            io::ErrorKind::InvalidData,
+            "its state is none of this setup",
+        ))),
+    }
+}
+
+/// As `follow_over`, by a follower that goes on from a state that a journal tells; `Journal` where it is none of this
+/// setup, and nothing is then written.
+pub fn follow_on<R, G, I, W, N, J>(
+    rt: &R,
+    alloc: Global,
+    setup: &[u8],
+    state: &str,
+    input: &mut I,
+    form: Form,
+    writer: &mut W,
+    workers: usize,
+    gate: &Arc<G, Global>,
+    watcher: &N,
+    journal: &mut J,
+) -> Result<(), FollowError>
+where
+    R: Threads + Wait + Copy + Send + Sync + 'static,
+    G: Gate + Send + Sync + Drop + 'static,
+    I: Read,
+    W: Sink,
+    N: Watcher,
+    J: Journal,
+    requires works { W.is_broken writer.old ≡ false }
+    requires workers { workers ≤ 64 }
+    ensures followed { OnOk result (IfSome (I.remaining input.old) (λ bytes. GoesOn form setup.now bytes (outs (W.taken writer.old) (J.documents journal.old)) (outs (W.taken writer.new) (J.documents journal.new)))) }
+{
+    let crew = Crew::new(rt, workers, &**gate);
+    let follower = restored(rt, alloc, setup, state, workers, gate)?;
     let follower = begin(rt, follower, form, writer)?;
     let teller = Teller {
         alloc,

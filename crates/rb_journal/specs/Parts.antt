@@ -56,3 +56,10 @@ pub record HasParts (bytes : List ℕ) (parts : List (List ℕ)) (rest : List �
   pub split : bytes ≡ concat parts ++ rest
   pub whole : All IsWhole parts
   pub cut : part_end rest ≡ None
+
+-- the part before the setup in a journal that was begun anew: the state that it goes on from, for which TOML has one string
+abbrev pub state_lines : List ℕ → List ℕ
+state_lines state = codes "# ibcplan journal 3\nstate = '''\n" ++ (state ++ codes "'''\n")
+
+abbrev pub state_part : List ℕ → List ℕ
+state_part state = state_lines state ++ closing true (state_lines state)

@@ -12,5 +12,5 @@ mod verbatim;
 
 pub use damage::damage_in;
 pub use entry::{document_text, entry_text, opening_text};
-pub use parts::{is_opening, split_part};
+pub use parts::{is_opening, split_part, state_in, state_part};
 pub use stored::{Stored, input_of, stored_in};

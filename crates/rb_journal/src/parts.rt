@@ -1,7 +1,7 @@
 //! The parts of a journal.
-ghost use Rattle.std.specs.Prelude.{◌≡◌, ◌++◌, length, take, string_bytes, IfOk, MatchOption, true};
+ghost use Rattle.std.specs.Prelude.{◌≡◌, ℕ, ◌++◌, List, length, take, string_bytes, IfOk, MatchOption, true};
 ghost use Rattle.std.specs.Str.{bytes_eq};
-ghost use Rattle.rb_journal.specs.Parts.{heading, closing, closing_length, digest_holds, part_end, IsWhole};
+ghost use Rattle.rb_journal.specs.Parts.{heading, closing, closing_length, digest_holds, part_end, state_part, IsWhole};
 
 use sha2::{Digest, Sha256};
 use std::alloc::{AllocError, Global};
@@ -84,4 +84,33 @@ pub fn is_opening(digests: bool, part: &[u8]) -> bool
     ensures { result ≡ bytes_eq (heading digests) (take (length (heading digests)) part.now) }
 {
     part.starts_with(heading(digests).as_bytes())
+}
+
+/// What the part of a state begins with, and the line behind the state.
+const STATE: &str = "# ibcplan journal 3\nstate = '''\n";
+
+const STATE_END: &str = "'''\n";
+
+/// The part that a journal which was begun anew has before its setup: the state that it goes on from.
+pub fn state_part(alloc: Global, state: &str) -> Result<String, AllocError>
+    ensures { IfOk result (λ part. string_bytes part ≡ state_part state.now) }
+{
+    let mut part = String::new(alloc);
+    part.push_str(STATE)?;
+    part.push_str(state)?;
+    part.push_str(STATE_END)?;
+    let end = closing(alloc, true, part.as_bytes())?;
+    part.push_str(end.as_str())?;
+    Ok(part)
+}
+
+/// The state of such a part; None of another.
+pub fn state_in(part: &[u8]) -> Option<&[u8]>
+    ensures { MatchOption result ((state : List ℕ) → part.now ≡ state_part state → ⊥) (λ state. (other : List ℕ) → part.now ≡ state_part other → state.now ≡ other) }
+{
+    let rest = part.strip_prefix(STATE.as_bytes())?;
+    let end = rest
+        .len()
+        .saturating_sub(closing_length(true) + STATE_END.len());
+    Some(&rest[..end])
 }

@@ -30,7 +30,7 @@ impl Model for Message {
 
 impl Message {
     /// The message for a packet of a path, the gas being that of the path's messages of its kind.
-    pub(crate) fn new(path: usize, gas: PathGas, packet: PacketMsg) -> Message
+    pub fn new(path: usize, gas: PathGas, packet: PacketMsg) -> Message
         ensures { result ≡ record { path = path; packet = packet; gas = gas_for gas packet.kind } }
     {
         Message {

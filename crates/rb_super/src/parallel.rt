@@ -3,10 +3,13 @@ ghost use Rattle.std.specs.Prelude.{◌≡◌, ◌<◌, ◌≤◌, ◌+◌, ◌*
 ghost use Rattle.rb_script_types.specs.Config.{config_view, IsConfig};
 ghost use Rattle.rb_script_types.specs.Script.{IsReadObservation};
 ghost use Rattle.rb_core.specs.Core.{state_in};
+ghost use Rattle.rb_core_model.specs.Config.{IsSetUp};
 ghost use Rattle.rb_core_model.specs.Forgetting.{floors_of, has_many_to_forget, rest_at_floors};
 ghost use Rattle.rb_core_model.specs.Over.{firsts_of};
-ghost use Rattle.rb_core_model.specs.Snapshot.{from_nothing};
-ghost use Rattle.rb_core_model.specs.Standing.{goes_back};
+ghost use Rattle.rb_core.specs.Snapshot.{snapshot_view};
+ghost use Rattle.rb_core_model.specs.Snapshot.{from_nothing, snapshot_of};
+ghost use Rattle.std.specs.Option.{option_copied};
+ghost use Rattle.rb_core_model.specs.Standing.{batch_open, goes_back};
 ghost use Rattle.rb_super_turn.specs.Turns.{hosts_back, before_plans, refusals_in, IsTurnReport, after_turn};
 ghost use Rattle.rb_script_types.specs.declared.script.HostWindow.{HostWindow as WindowOf};
 ghost use Rattle.rb_super_turn.specs.Phases.{standing_in, HasLogRoom, IsLater, turn_heard, IsAllScanned, IsPlannable, AreReported};
@@ -18,7 +21,8 @@ use crate::head::{Head, close, publish, relayer_over};
 use crate::orders::{order_plans, order_scans};
 use rb_base::{Gate, Window};
 use rb_board::{Desk, open};
-use rb_core::Core;
+use rb_core::{Core, Snapshot};
+use rb_core_state::OpenBatch;
 use rb_script_types::{Asked, Config, HostWindow, Observation, Turn};
 use rb_super_turn::{
     ClientReport, Crew, Heard, Relayer, TurnReport, hear_all, no_tables, plan_all, scan_all,
@@ -233,7 +237,7 @@ impl<G: Gate + Send + Sync + Drop + 'static> ParallelSupervisor<G> {
 
     /// A supervisor whose relayer has taken in what a core has, with the team that is started for so many
     /// desks of its board. The core is given up where a growth is refused.
-    fn over<R, F>(
+    pub fn over<R, F>(
         rt: &R,
         alloc: Global,
         core: Core,
@@ -320,6 +324,28 @@ impl<G: Gate + Send + Sync + Drop + 'static> ParallelSupervisor<G> {
             team,
         };
         Ok((next, report))
+    }
+
+    /// What the relayer was set up with.
+    pub fn config(&self) -> &Config
+        ensures value { config_view result.now ≡ self.now.config }
+        ensures set_up { IsSetUp self.now.config }
+    {
+        self.relayer.config()
+    }
+
+    /// The open batch of a client, as `Core::open_batch`.
+    pub fn open_batch(&self, client: usize) -> Option<&OpenBatch>
+        ensures { option_copied result ≡ batch_open (standing_in self.now) client }
+    {
+        self.relayer.open_batch(client)
+    }
+
+    /// What a relayer goes on from, as `Core::snapshot`.
+    pub fn snapshot(&self) -> Result<Snapshot, AllocError>
+        ensures { IfOk result (λ snapshot. snapshot_view snapshot ≡ snapshot_of (standing_in self.now)) }
+    {
+        self.relayer.snapshot()
     }
 
     /// The floors of all chains, as `Core::floors`.

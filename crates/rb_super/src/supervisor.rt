@@ -86,6 +86,14 @@ impl<A: Allocator + Copy> Supervisor<A> {
         Ok(Supervisor { alloc, relayer })
     }
 
+    /// A supervisor whose relayer has taken in what a core has, which is given up where a growth is refused.
+    pub fn over(alloc: A, core: Core<A>) -> Result<Supervisor<A>, AllocError>
+        ensures { IfOk result (λ s. s ≡ core) }
+    {
+        let relayer = Relayer::from_core(alloc, core)?;
+        Ok(Supervisor { alloc, relayer })
+    }
+
     /// The relayer after all that it has taken in.
     pub fn core(&self) -> &Core<A>
         ensures { result.now ≡ self.now }
@@ -137,8 +145,7 @@ impl<A: Allocator + Copy> Supervisor<A> {
     {
         let Supervisor { alloc, relayer } = self;
         let core = relayer.into_core().begin_anew()?;
-        let relayer = Relayer::from_core(alloc, core)?;
-        Ok(Supervisor { alloc, relayer })
+        Supervisor::over(alloc, core)
     }
 
     /// Ends it: what it has taken in is given back.

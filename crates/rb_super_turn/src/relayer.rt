@@ -11,7 +11,8 @@ ghost use Rattle.rb_core_model.specs.Machine.{client_view, client_view_refusal, 
 ghost use Rattle.rb_core_model.specs.Refused.{IsRefusal};
 ghost use Rattle.rb_core_model.specs.Replied.{reply_view};
 ghost use Rattle.rb_core_model.specs.Seen.{event_view};
-ghost use Rattle.rb_core_model.specs.Snapshot.{followed_by, from_nothing};
+ghost use Rattle.rb_core.specs.Snapshot.{snapshot_view};
+ghost use Rattle.rb_core_model.specs.Snapshot.{followed_by, from_nothing, snapshot_of};
 ghost use Rattle.rb_core_model.specs.Standing.{book_at, path_view, batch_open};
 ghost use Rattle.rb_super_turn.specs.Phases.{standing_in};
 ghost use Rattle.rb_super_turn.specs.Tables.{chain_of, AreTables};
@@ -21,7 +22,7 @@ use crate::machine::Machine;
 use crate::tables::{no_tables, table_in, take_in};
 use rb_base::{Gate, Part};
 use rb_book::{ChainBook, SharedBook};
-use rb_core::Core;
+use rb_core::{Core, Snapshot};
 use rb_core_model::{CoreError, Event, Reply};
 use rb_core_state::OpenBatch;
 use rb_graph::SharedGraph;
@@ -189,6 +190,13 @@ impl<A: Allocator + Copy, M: Machine<A>> Relayer<A, M> {
         ensures { result ≡ has_many_to_forget least (standing_in self.now) }
     {
         self.machine.core().has_many_to_forget(least)
+    }
+
+    /// What a relayer goes on from, as `Core::snapshot`.
+    pub fn snapshot(&self) -> Result<Snapshot<A>, AllocError>
+        ensures { IfOk result (λ snapshot. snapshot_view snapshot ≡ snapshot_of (standing_in self.now)) }
+    {
+        self.machine.core().snapshot()
     }
 
     /// How many events it has taken in.

@@ -330,6 +330,8 @@ const OUTCOMES: &[Row] = &[
         "at least 12 | 12<1 | Acknowledge 0 1 60 | Acknowledge 1 3 51 | Acknowledge 1 4 51 | batch 12: 0+1 111, 1+2 111, 3+1 51",
     ),
     (Deed::Last, "Opened(1)"),
+    // what is known is all that settling it takes
+    (Deed::Known, ""),
     (Deed::Settled(1, 1, 2), "Noted"),
     (Deed::Cleared(0, 1), "804 Repeat"),
     (Deed::Cleared(1, 3), "804 Repeat"),
@@ -349,7 +351,10 @@ const OUTCOMES: &[Row] = &[
         "at least 5 | Timeout 0 2 60 | Timeout 1 7 52 | batch 12: 0+2 112",
     ),
     (Deed::Last, "Opened(2)"),
+    (Deed::Known, ""),
     (Deed::Settled(1, 2, 1), "Noted"),
+    (Deed::Known, ""),
+    (Deed::Settled(1, 2, 1), "804 Repeat"),
     // that closed the ORDERED path
     (Deed::Closed(1), "804 Repeat"),
     (Deed::Closed(0), "Noted"),

@@ -55,6 +55,8 @@ pub enum Deed {
     Swap,
     /// Goes on with a machine before its first event, of this limit and with these clients more.
     Anew(usize, &'static [&'static str]),
+    /// Goes on with a machine that begins with what this one knows.
+    Known,
     /// So many lone sets, or packets, one after the other, up to the first one that isn't noted.
     LoneSets(usize, u64),
     Packets(usize, u64),
@@ -319,12 +321,23 @@ impl Run {
         Some(())
     }
 
+    fn begin_with_known(&mut self) -> Option<()> {
+        let config = self.core.config().copy().ok()?;
+        if !is_config(&config) {
+            return None;
+        }
+        let snapshot = self.core.snapshot().ok()?;
+        self.core = Core::restored(self.alloc, config, &snapshot).ok()??;
+        Some(())
+    }
+
     /// Goes on with another machine, or with a copy beside this one.
     fn change(&mut self, texts: Global, deed: Deed) -> Option<String> {
         match deed {
             Deed::Copy => self.put_copy_aside()?,
             Deed::Swap => self.swap()?,
             Deed::Anew(limit, more) => self.begin_anew(limit, more)?,
+            Deed::Known => self.begin_with_known()?,
             _ => return None,
         }
         Some(String::new(texts))
@@ -353,7 +366,7 @@ impl Run {
         match deed {
             Deed::Scan(path, part) => self.scan(texts, path, part),
             Deed::Draft(client) => self.draft(texts, client),
-            Deed::Copy | Deed::Swap | Deed::Anew(..) => self.change(texts, deed),
+            Deed::Copy | Deed::Swap | Deed::Anew(..) | Deed::Known => self.change(texts, deed),
             Deed::LoneSets(_, count) | Deed::Packets(_, count) => {
                 self.enter_all(rt, texts, deed, count)
             }

@@ -36,12 +36,12 @@ impl Stopper {
 
 impl Follower {
     pub(crate) fn new(planner: Planner, setup: String, journal: Option<PathBuf>) -> Result<Follower, Error> {
-        let (run, lines) = Run::new(&planner, &setup, journal.as_ref())?;
+        let (run, Past { lines, turns }) = Run::new(&planner, &setup, journal.as_ref())?;
         let past = lines.iter().map(|line| Turn::answer(&Json::read(line)?)).collect::<Result<Vec<_>, _>>()?;
-        Ok(Follower { planner, setup, journal, run, turns: past.len(), past })
+        Ok(Follower { planner, setup, journal, run, turns, past })
     }
 
-    /// The answers to the turns that the journal had.
+    /// The answers to the turns that the journal had, since it was begun anew.
     pub fn past(&self) -> &[Turn] {
         &self.past
     }
@@ -66,9 +66,9 @@ impl Follower {
             return Err(Error::Misused("without a journal turns are lost: begin another follower".to_owned()));
         }
         self.run.end();
-        let (run, lines) = Run::new(&self.planner, &self.setup, self.journal.as_ref())?;
-        let is_taken = lines.len() > self.turns;
-        (self.run, self.turns) = (run, lines.len());
+        let (run, Past { lines, turns }) = Run::new(&self.planner, &self.setup, self.journal.as_ref())?;
+        let is_taken = turns > self.turns;
+        (self.run, self.turns) = (run, turns);
         let last = lines.last().filter(|_| is_taken);
         last.map(|line| Turn::answer(&Json::read(line)?)).transpose()
     }
@@ -95,6 +95,12 @@ impl Follower {
     }
 }
 
+/// The answers to the journal's turns since it was begun anew, and how many turns were answered.
+struct Past {
+    lines: Vec<String>,
+    turns: usize,
+}
+
 /// A process and its pipes.
 #[derive(Debug)]
 struct Run {
@@ -107,7 +113,7 @@ struct Run {
 
 impl Run {
     /// Starts the process; the answers to the journal's turns.
-    fn new(planner: &Planner, setup: &str, journal: Option<&PathBuf>) -> Result<(Run, Vec<String>), Error> {
+    fn new(planner: &Planner, setup: &str, journal: Option<&PathBuf>) -> Result<(Run, Past), Error> {
         let setup = document(setup)?;
         let mut command = planner.command("follow");
         planner.add_workers(&mut command).args(["--json", "-"]);
@@ -137,21 +143,23 @@ impl Run {
         Ok((run, past))
     }
 
-    /// Tells the setup; what the process begins with, and the old answers: a fault, to an empty document, marks their end.
-    fn begin(&mut self, setup: &str) -> Result<Vec<String>, Error> {
-        let first = self.exchange(&format!("{setup}{}", document("")?))?;
+    /// Tells the setup; what the process begins with, and the old answers. A document with a number that isn't due marks
+    /// their end: its fault has the number that is.
+    fn begin(&mut self, setup: &str) -> Result<Past, Error> {
+        let first = self.exchange(&format!("{setup}{}", document("turn = 0")?))?;
         let greeting = Json::read(&first)?;
         if greeting.get("fault").is_some() {
             return Err(self.ended(&first)); // of the setup
         }
         format_of(&greeting)?;
-        let mut past = Vec::new();
+        let mut lines = Vec::new();
         loop {
             let line = self.line()?;
-            if Json::read(&line)?.get("fault").is_some() {
-                return Ok(past);
+            let answer = Json::read(&line)?;
+            if answer.get("fault").is_some() {
+                return Ok(Past { lines, turns: answer.number("turn")?.saturating_sub(1) as usize });
             }
-            past.push(line);
+            lines.push(line);
         }
     }
 
