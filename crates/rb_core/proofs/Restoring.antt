@@ -1,8 +1,9 @@
 -- A core begins with what is known, where that fits.
-use Rattle.std.proofs.Common.{◌≡◌, ◌↔◌, ℕ, ◌+◌, ◌<◌, ◌≤◌, ◌==◌, ◌&&◌, nat_le, not, Bool, true, false, if◌then◌else◌, List, [], length, All, Option, Some, None, IfSome, IsSomeAnd, IsTrue, replicate, sym, ap, subst, refl, inl, inr, arith}
+use Rattle.std.proofs.Common.{◌≡◌, ◌↔◌, ℕ, ◌+◌, ◌<◌, ◌≤◌, ◌==◌, nat_le, Bool, true, false, if◌then◌else◌, List, [], length, take, get_or, All, Option, Some, None, IfSome, IsSomeAnd, IsTrue, replicate, sym, ap, subst, refl, inl, inr, arith}
 use Rattle.std.specs.List.{list_all, slice_get}
-use Rattle.std.proofs.lemmas.Bool.{cases_lt, false≢true}
-use Rattle.std.proofs.lemmas.List.Elements.{All-map, All-nil}
+use Rattle.std.proofs.lemmas.Bool.{cases_lt, eq-eqb, ne_eqb, true≢false, false≢true}
+use Rattle.std.proofs.lemmas.List.{take_more}
+use Rattle.std.proofs.lemmas.List.Elements.{All-map, All-nil, All-push}
 use Rattle.std.proofs.lemmas.Option.{slice_get_past}
 use Rattle.rb_base.specs.declared.gate.Part.TheVariants.{Packets, Channel}
 use Rattle.rb_script_types.specs.Config.{Config}
@@ -41,7 +42,12 @@ fitting_begun config start s hs state known clients few fits = record {
       (All-map (λ (y : ClientSnapshot). y.batches ≤ max_begun) snapshot_of_client s.standing.clients (subst (λ cs. All (λ c. c.batches ≤ max_begun) cs) clients (few_all hs few)));
 }
 
--- ---- a fact of each element by its place, one place after another
+-- ---- a fact of each element, one after another
+
+pub all_more : {X : Type 0} (P : X → Type 0) (xs : List X) (n : ℕ) (x : X) → n < length xs → x ≡ get_or xs n x → All P (take n xs) → P x → All P (take (n + 1) xs)
+all_more P xs n x within e kept new = rw (take_more xs n x within, sym e) (All-push P (take n xs) x kept new)
+
+-- by its place
 
 module _ {X : Type 0} (P : ℕ → X → Type 0) (xs : List X) (n : ℕ) where
   pub one_more : (x : X) → slice_get xs n ≡ Some x → P n x → ((i : ℕ) → i < n → IfSome (slice_get xs i) (P i)) → (i : ℕ) → i < n + 1 → IfSome (slice_get xs i) (P i)
@@ -68,13 +74,20 @@ receives_for p client = go (p.forward == client) (p.back == client)
     go false true = (λ h. absurd (false≢true h), λ e. absurd (cc))
     go false false = (λ h. absurd (false≢true h), λ e. absurd (cc))
 
-pub outcomes_for : (p : PathConfig) (client : ℕ) → IsTrue (not (p.forward == client) && (p.back == client)) ↔ (part_for p client ≡ Some Channel)
-outcomes_for p client = go (p.forward == client) (p.back == client)
+pub outcomes_for : (p : PathConfig) (client : ℕ) → (p.forward ≡ client → ⊥) → IsTrue (p.back == client) ↔ (part_for p client ≡ Some Channel)
+outcomes_for p client other = go (p.forward == client) (ne_eqb p.forward client other) (p.back == client)
   where
-    go : (a b : Bool) → IsTrue (not a && b) ↔ ((if a then Some Packets else (if b then Some Channel else None)) ≡ Some Channel)
-    go true b = (λ h. absurd (false≢true h), λ e. absurd (cc))
-    go false true = (λ _. refl, λ _. refl)
-    go false false = (λ h. absurd (false≢true h), λ e. absurd (cc))
+    go : (a : Bool) → a ≡ false → (b : Bool) → IsTrue b ↔ ((if a then Some Packets else (if b then Some Channel else None)) ≡ Some Channel)
+    go true e b = absurd (true≢false e)
+    go false e true = (λ _. refl, λ _. refl)
+    go false e false = (λ h. absurd (false≢true h), λ h. absurd (cc))
+
+pub no_outcomes_for : (p : PathConfig) (client : ℕ) → p.forward ≡ client → IsTrue false ↔ (part_for p client ≡ Some Channel)
+no_outcomes_for p client same = go (p.forward == client) (eq-eqb p.forward client same) (p.back == client)
+  where
+    go : (a : Bool) → a ≡ true → (b : Bool) → IsTrue false ↔ ((if a then Some Packets else (if b then Some Channel else None)) ≡ Some Channel)
+    go true e b = (λ h. absurd (false≢true h), λ h. absurd (cc))
+    go false e b = absurd (false≢true e)
 
 -- a message's path is there and has it, or it isn't
 pub seen_none : {X : Type 0} (o : Option X) (P : X → Type 0) → o ≡ None → IsTrue false ↔ IsSomeAnd o P

@@ -179,7 +179,7 @@ fn fits_open<A: Allocator + Copy>(
     book: &ChainBook<A>,
     batch: Option<&OpenBatch<A>>,
 ) -> bool
-    ensures { IsTrue result → IfSome (option_copied batch) (FitsBatch (standing_view state.now) client book.now) }
+    ensures { IsTrue result → IfSome (option_copied batch.entry) (FitsBatch (standing_view state.now) client book.now) }
 {
     match batch {
         Some(batch) => fits_batch(state, client, book, batch),

@@ -12,8 +12,8 @@ pub returns : goal.returns
 returns g c h =
     let s = standing_view c.args.state.now in
     let k = c.args.client.now.client in
-    let book : c.book.result.now ≡ book_at s.books k.config.tracks =
-    c.book.ensures ∙ sym c.in-Some.ensures ∙ (λ i. book_at (books_of (c.as_slice.ensures.value i)) (c.config.ensures i).tracks) in
+    let book : c.book-book.result.now ≡ book_at s.books k.config.tracks =
+    c.book-book.ensures ∙ sym c.in-Some.ensures ∙ (λ i. book_at (books_of (c.as_slice.ensures.value i)) (c.config.ensures i).tracks) in
     record {
       window = subst (λ o. IfSome o (λ (w : Span). w.from ≤ w.until)) c.own_window.ensures c.in_order.ensures;
       stored = subst (λ (p : Book × List ℕ). AreKnown p.0 p.1) (λ i. (book i, c.stored.ensures.value i)) (c.are_known.ensures.0 c.if-not-are_known.false);
