@@ -17,8 +17,8 @@ use Rattle.rb_step.specs.declared.verdict.Reason.TheVariants.{Expired, TrustedSe
 use Rattle.rb_step.specs.declared.verdict.Verdict.{Verdict}
 use Rattle.rb_step.specs.declared.verdict.Verdict.TheVariants.{Invalid, Success}
 use Rattle.rb_import_answers.specs.declared.commit.SignedHeader.{SignedHeader}
-use Rattle.rb_want_search.specs.declared.judge.Judgement.{Judgement}
-use Rattle.rb_want_search.specs.declared.judge.Judgement.TheVariants.{Accepted, Refused, Never, Gone, Unknown}
+use Rattle.rb_want_requests.specs.declared.judge.Judgement.{Judgement}
+use Rattle.rb_want_requests.specs.declared.judge.Judgement.TheVariants.{Accepted, Refused, Never, Gone, Unknown}
 use Rattle.rb_want.specs.declared.judged.Steps.{Steps}
 use Rattle.rb_want.specs.Clients.{IsHeaderAt}
 use Rattle.rb_want.specs.Judgements.{AreByRule, IsExpiring, IsRefusal, LacksStep, LacksTrust}

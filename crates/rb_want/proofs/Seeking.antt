@@ -16,10 +16,10 @@ use Rattle.rb_import_answers.specs.declared.status.NodeStatus.{NodeStatus}
 use Rattle.rb_want_requests.specs.declared.reason.End.{End}
 use Rattle.rb_want_requests.specs.declared.reason.End.TheVariants as endings
 use Rattle.rb_want_requests.specs.declared.reason.Why.{Why}
-use Rattle.rb_want_search.specs.Search.{IsFinding}
-use Rattle.rb_want_search.specs.declared.searching.Aim.{Aim}
-use Rattle.rb_want_search.specs.declared.searching.Finding.{Finding}
-use Rattle.rb_want_search.specs.declared.searching.Question.{Question}
+use Rattle.rb_want_requests.specs.Search.{IsFinding}
+use Rattle.rb_want_requests.specs.declared.searching.Aim.{Aim}
+use Rattle.rb_want_requests.specs.declared.searching.Finding.{Finding}
+use Rattle.rb_want_requests.specs.declared.searching.Question.{Question}
 use Rattle.rb_want.specs.Adding.{Outcome, Told, ended, no_outcome, reasons_if, with_ends, with_needed, with_outcome}
 use Rattle.rb_want.specs.Clients.{is_other_client, state_in, status_in}
 use Rattle.rb_want.specs.Judgements.{AreByRule}

@@ -13,8 +13,8 @@ use Rattle.rb_want_requests.specs.Answered.{is_commit_of}
 use Rattle.rb_want_requests.specs.Requests.{is_named}
 use Rattle.rb_want_requests.specs.declared.request.Query.{Query}
 use Rattle.rb_want_requests.specs.declared.request.Query.TheVariants as queries
-use Rattle.rb_want_search.specs.declared.judge.Judgement.{Judgement}
-use Rattle.rb_want_search.specs.declared.judge.Judgement.TheVariants.{Accepted, Refused, Never, Gone, Unknown}
+use Rattle.rb_want_requests.specs.declared.judge.Judgement.{Judgement}
+use Rattle.rb_want_requests.specs.declared.judge.Judgement.TheVariants.{Accepted, Refused, Never, Gone, Unknown}
 use Rattle.rb_want.specs.Clients.{IsHeaderAt}
 use Rattle.rb_want.specs.Steps.{IsRecordAt, IsStepAt, IsVerdictOn, header_of}
 use Rattle.rb_want.specs.Waiting.{HasNoRecord, HasSet, WaitsFor, page_asked}

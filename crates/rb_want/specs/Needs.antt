@@ -37,11 +37,11 @@ use Rattle.rb_want_requests.specs.declared.request.Owner.TheVariants as owners
 use Rattle.rb_want_requests.specs.declared.request.Query.{Query}
 use Rattle.rb_want_requests.specs.declared.request.Query.TheVariants as queries
 use Rattle.rb_want_requests.specs.declared.request.Request.{Request}
-use Rattle.rb_want_search.specs.Search.{IsFinding}
-use Rattle.rb_want_search.specs.declared.searching.Aim.{Aim}
-use Rattle.rb_want_search.specs.declared.searching.Finding.{Finding}
-use Rattle.rb_want_search.specs.declared.searching.Finding.TheVariants as findings
-use Rattle.rb_want_search.specs.declared.searching.Question.{Question}
+use Rattle.rb_want_requests.specs.Search.{IsFinding}
+use Rattle.rb_want_requests.specs.declared.searching.Aim.{Aim}
+use Rattle.rb_want_requests.specs.declared.searching.Finding.{Finding}
+use Rattle.rb_want_requests.specs.declared.searching.Finding.TheVariants as findings
+use Rattle.rb_want_requests.specs.declared.searching.Question.{Question}
 use Rattle.rb_want.specs.Adding.{Outcome, ended, no_outcome}
 use Rattle.rb_want.specs.Clients.{is_other_client, state_in, status_in, stored_in}
 use Rattle.rb_want.specs.Judgements.{AreByRule, IsSaidIf, IsSaidOf}

@@ -18,10 +18,9 @@ use rb_import_setup::{ClientSetup, Setup};
 use rb_script_types::{Asked, Goal};
 use rb_step::Verdict;
 use rb_want_requests::{
-    End, Folders, Missing, Owner, PartKind, Query, Request, Wanted, Why, has_all, is_named,
-    next_part,
+    Aim, End, Finding, Folders, Missing, Owner, PartKind, Query, Question, Request, Wanted, Why,
+    has_all, is_named, next_part, search,
 };
-use rb_want_search::{Aim, Finding, Question, search};
 use std::alloc::{AllocError, Global};
 
 /// Clock drifts are below this.

@@ -16,8 +16,7 @@ use rb_import_answers::{BlockIdFlag, ConsensusState, Signature, SignedHeader};
 use rb_step::laws::{answer_applies, window_is_by_ends};
 use rb_step::{Reason, Verdict, verify};
 use rb_valset::ValidatorSet;
-use rb_want_requests::Query;
-use rb_want_search::{Judge, Judgement};
+use rb_want_requests::{Judge, Judgement, Query};
 use std::alloc::{AllocError, Global};
 
 /// The most requests that a step waits for at once: for the set that its trusted record names, for its header, and for the

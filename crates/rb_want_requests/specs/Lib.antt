@@ -2,9 +2,13 @@ pub mod Answered
 pub mod Asking
 pub mod Contents
 pub mod Ends
+pub mod Halving
+pub mod Hop
 pub mod Keys
 pub mod Lines
 pub mod PacketPaths
 pub mod Pending
 pub mod Reasons
 pub mod Requests
+pub mod Rounds
+pub mod Search

@@ -1,5 +1,5 @@
 use rb_base::Height;
-use rb_want_search::{Aim, Finding, Judge, Judgement, search};
+use rb_want_requests::{Aim, Finding, Judge, Judgement, search};
 use std::alloc::AllocError;
 use std::process::Abort;
 use std::test::Fail;

@@ -1,6 +1,6 @@
 use Rattle.std.proofs.Common.{◌∙◌, [], ◌∷◌, ap, refl, subst}
-use Rattle.rb_want_search.specs.Search.{IsFinding}
-use Rattle.rb_want_search.specs.declared.searching.Finding.TheVariants as findings
+use Rattle.rb_want_requests.specs.Search.{IsFinding}
+use Rattle.rb_want_requests.specs.declared.searching.Finding.TheVariants as findings
 use Rattle.rb_want.specs.Adding.{ended, no_outcome, told_of, with_ends}
 use Rattle.rb_want.specs.Judgements.{AreByRule}
 use Rattle.rb_want.specs.Needs.{tracking_of, why_stuck}

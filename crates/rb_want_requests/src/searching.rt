@@ -1,8 +1,8 @@
 //! The search for the heights that a client's updates should go to: from a trusted height to the greatest that is
 //! accepted from there, which halving finds, and on from that.
 ghost use Rattle.std.specs.Prelude.{◌<◌, IfOk};
-ghost use Rattle.rb_want_search.specs.Hop.{IsHop, IsRefusedStep};
-ghost use Rattle.rb_want_search.specs.Search.{IsFinding};
+ghost use Rattle.rb_want_requests.specs.Hop.{IsHop, IsRefusedStep};
+ghost use Rattle.rb_want_requests.specs.Search.{IsFinding};
 
 use crate::gap::Gap;
 use crate::judge::{Judge, Judgement};

@@ -1,11 +1,11 @@
 -- Rounds of a search: in each, the steps that the ones before asked about are judged.
 use Rattle.std.specs.Prelude.{◌≡◌, ◌≢◌, ◌+◌, ◌-◌, ◌*◌, ◌^◌, ◌<◌, ◌≤◌, ℕ, List, All, Contains, length}
 use Rattle.std.specs.List.{AllPairs}
-use Rattle.rb_want_search.specs.Search.{IsQuestion, Judgements}
-use Rattle.rb_want_search.specs.declared.judge.Judgement.{Judgement}
-use Rattle.rb_want_search.specs.declared.judge.Judgement.TheVariants.{Unknown}
-use Rattle.rb_want_search.specs.declared.searching.Aim.{Aim}
-use Rattle.rb_want_search.specs.declared.searching.Question.{Question}
+use Rattle.rb_want_requests.specs.Search.{IsQuestion, Judgements}
+use Rattle.rb_want_requests.specs.declared.judge.Judgement.{Judgement}
+use Rattle.rb_want_requests.specs.declared.judge.Judgement.TheVariants.{Unknown}
+use Rattle.rb_want_requests.specs.declared.searching.Aim.{Aim}
+use Rattle.rb_want_requests.specs.declared.searching.Question.{Question}
 
 -- how each step from a trusted height to another is judged in a round, and which one the search asks about
 pub record Round : Type 0 where

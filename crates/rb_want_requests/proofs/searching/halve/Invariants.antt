@@ -1,10 +1,10 @@
 use Rattle.std.proofs.Common.{◌≤◌, ◌<◌, ◌-◌}
 use Rattle.std.specs.Prelude.{IfSome, unwrap_or}
-use Rattle.rb_want_search.specs.declared.judge.Judgement.TheVariants.{Accepted}
-use Rattle.rb_want_search.specs.Search.{IsFloor, IsWithin}
-use Rattle.rb_want_search.specs.Hop.{IsRefusedStep}
-use Rattle.rb_want_search.proofs.Halving.{IsGap}
-use Rattle.rb_want_search.proofs.searching.halve.Given as goal
+use Rattle.rb_want_requests.specs.declared.judge.Judgement.TheVariants.{Accepted}
+use Rattle.rb_want_requests.specs.Search.{IsFloor, IsWithin}
+use Rattle.rb_want_requests.specs.Hop.{IsRefusedStep}
+use Rattle.rb_want_requests.proofs.Halving.{IsGap}
+use Rattle.rb_want_requests.proofs.searching.halve.Given as goal
 
 -- the gap lies above the trusted height; the step to its ceiling isn't accepted, and that to the greatest accepted height so far is, from which, or else
 -- from the trusted one, or from a greater one that isn't given, the gap goes up; halvings leave it

@@ -1,7 +1,7 @@
 use Rattle.std.proofs.Common.{arith, inl, inr, refl, rules, subst}
-use Rattle.rb_want_search.specs.declared.judge.Judgement.TheVariants.{Refused}
-use Rattle.rb_want_search.proofs.Halving.{lower, upper}
-use Rattle.rb_want_search.proofs.searching.halve.Goals as goal
+use Rattle.rb_want_requests.specs.declared.judge.Judgement.TheVariants.{Refused}
+use Rattle.rb_want_requests.proofs.Halving.{lower, upper}
+use Rattle.rb_want_requests.proofs.searching.halve.Goals as goal
 
 -- from the greatest accepted height up the gap goes from the height that isn't given
 pub halvings-preserved-in-Gone : goal.halvings-preserved-in-Gone

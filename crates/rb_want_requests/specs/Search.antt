@@ -1,11 +1,11 @@
 -- What a search for accepted steps comes to, by how steps are judged.
 use Rattle.std.specs.Prelude.{◌≡◌, ◌≢◌, ◌⊎◌, ◌+◌, ◌-◌, ◌/◌, ◌^◌, ◌<◌, ◌≤◌, ℕ, zero, suc, List, [], ◌∷◌, Option, Some, None, IfSome, unwrap_or}
-use Rattle.rb_want_search.specs.declared.judge.Judgement.{Judgement}
-use Rattle.rb_want_search.specs.declared.judge.Judgement.TheVariants.{Accepted, Gone, Never, Refused, Unknown}
-use Rattle.rb_want_search.specs.declared.searching.Aim.{Aim}
-use Rattle.rb_want_search.specs.declared.searching.Question.{Question}
-use Rattle.rb_want_search.specs.declared.searching.Finding.{Finding}
-use Rattle.rb_want_search.specs.declared.searching.Finding.TheVariants.{Asks, Reached, Stuck}
+use Rattle.rb_want_requests.specs.declared.judge.Judgement.{Judgement}
+use Rattle.rb_want_requests.specs.declared.judge.Judgement.TheVariants.{Accepted, Gone, Never, Refused, Unknown}
+use Rattle.rb_want_requests.specs.declared.searching.Aim.{Aim}
+use Rattle.rb_want_requests.specs.declared.searching.Question.{Question}
+use Rattle.rb_want_requests.specs.declared.searching.Finding.{Finding}
+use Rattle.rb_want_requests.specs.declared.searching.Finding.TheVariants.{Asks, Reached, Stuck}
 
 -- how the step from a trusted height to another is judged
 abbrev pub Judgements : Type 1

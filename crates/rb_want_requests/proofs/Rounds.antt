@@ -4,11 +4,11 @@ use Rattle.std.specs.List.{AllPairs}
 use Rattle.std.proofs.Math.Pow.{pow_mono}
 use Rattle.std.proofs.lemmas.Bool.{cases_lt, true≢false}
 use Rattle.std.proofs.lemmas.List.Elements.{All-tail}
-use Rattle.rb_want_search.specs.Search.{IsGapAfter, IsHalved, IsNext, middle_of}
-use Rattle.rb_want_search.specs.declared.judge.Judgement.{Judgement}
-use Rattle.rb_want_search.specs.declared.judge.Judgement.TheVariants.{Accepted, Refused, Gone, Unknown}
-use Rattle.rb_want_search.specs.declared.searching.Aim.{Aim}
-use Rattle.rb_want_search.specs.Rounds.{Asks, FewFromOne, IsLater, Round, judged_by}
+use Rattle.rb_want_requests.specs.Search.{IsGapAfter, IsHalved, IsNext, middle_of}
+use Rattle.rb_want_requests.specs.declared.judge.Judgement.{Judgement}
+use Rattle.rb_want_requests.specs.declared.judge.Judgement.TheVariants.{Accepted, Refused, Gone, Unknown}
+use Rattle.rb_want_requests.specs.declared.searching.Aim.{Aim}
+use Rattle.rb_want_requests.specs.Rounds.{Asks, FewFromOne, IsLater, Round, judged_by}
 
 -- ---- judgements
 

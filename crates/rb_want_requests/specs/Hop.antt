@@ -1,9 +1,9 @@
 -- (internal) Where a search goes from a trusted height.
 use Rattle.std.specs.Prelude.{◌≡◌, ℕ}
-use Rattle.rb_want_search.specs.Search.{Judgements, IsDeadEnd, IsFarthestStep, IsNotAccepted, IsQuestion, IsWithin}
-use Rattle.rb_want_search.specs.declared.searching.Aim.{Aim}
-use Rattle.rb_want_search.specs.declared.searching.Hop.{Hop}
-use Rattle.rb_want_search.specs.declared.searching.Hop.TheVariants.{To, Asks, Stuck}
+use Rattle.rb_want_requests.specs.Search.{Judgements, IsDeadEnd, IsFarthestStep, IsNotAccepted, IsQuestion, IsWithin}
+use Rattle.rb_want_requests.specs.declared.searching.Aim.{Aim}
+use Rattle.rb_want_requests.specs.declared.searching.Hop.{Hop}
+use Rattle.rb_want_requests.specs.declared.searching.Hop.TheVariants.{To, Asks, Stuck}
 
 -- the step goes up, no higher than the aim, and isn't accepted
 abbrev pub IsRefusedStep : Judgements → Aim → ℕ → ℕ → Type 0

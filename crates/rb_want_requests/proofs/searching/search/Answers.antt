@@ -1,7 +1,7 @@
 use Rattle.std.proofs.Common.{rules, subst}
-use Rattle.rb_want_search.specs.Hop.{IsHop}
-use Rattle.rb_want_search.proofs.Leading.{further}
-use Rattle.rb_want_search.proofs.searching.search.Goals as goal
+use Rattle.rb_want_requests.specs.Hop.{IsHop}
+use Rattle.rb_want_requests.proofs.Leading.{further}
+use Rattle.rb_want_requests.proofs.searching.search.Goals as goal
 
 -- a hop is one farthest step more
 pub hops-preserved : goal.hops-preserved

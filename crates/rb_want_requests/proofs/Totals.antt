@@ -5,9 +5,9 @@ use Rattle.std.proofs.Math.Nat.{suc-mul}
 use Rattle.std.proofs.lemmas.Bool.{cases_lt, eqb-true, eq-eqb, true≢false}
 use Rattle.std.proofs.lemmas.List.Elements.{All-filter, All-tail, filter_passes}
 use Rattle.std.proofs.lemmas.List.Kept.{AllPairs-filter}
-use Rattle.rb_want_search.specs.declared.searching.Aim.{Aim}
-use Rattle.rb_want_search.specs.Rounds.{AreRounds, Asks, FewRounds, IsLater, Round}
-use Rattle.rb_want_search.proofs.Rounds.{few_from_one}
+use Rattle.rb_want_requests.specs.declared.searching.Aim.{Aim}
+use Rattle.rb_want_requests.specs.Rounds.{AreRounds, Asks, FewRounds, IsLater, Round}
+use Rattle.rb_want_requests.proofs.Rounds.{few_from_one}
 
 -- elements that pass a test, and the others
 split : {X : Type 0} (p : X → Bool) (xs : List X) → length xs ≡ length (filter p xs) + length (filter (λ x. not (p x)) xs)

@@ -21,7 +21,7 @@ pub enum Judgement {
 
 /// Whoever judges steps by the answers that are there.
 pub trait Judge {
-    ghost use Rattle.rb_want_search.specs.declared.judge.Judgement.{Judgement};
+    ghost use Rattle.rb_want_requests.specs.declared.judge.Judgement.{Judgement};
 
     // That the step from a trusted height to another is judged so.
     ghost judges: { Self → ℕ → ℕ → Judgement → Type 0 };

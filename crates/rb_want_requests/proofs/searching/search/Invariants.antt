@@ -1,6 +1,6 @@
 use Rattle.std.proofs.Common.{◌-◌}
-use Rattle.rb_want_search.specs.Search.{IsReached}
-use Rattle.rb_want_search.proofs.searching.search.Given as goal
+use Rattle.rb_want_requests.specs.Search.{IsReached}
+use Rattle.rb_want_requests.proofs.searching.search.Given as goal
 
 -- the trusted height is reached
 abbrev pub invariant-hops : goal.invariant-hops

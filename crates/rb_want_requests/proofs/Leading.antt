@@ -1,7 +1,7 @@
 -- Farthest steps, and one more.
 use Rattle.std.proofs.Common.{ℕ, ◌<◌, List, [], ◌∷◌, ◌++◌, refl, subst, sym}
-use Rattle.rb_want_search.specs.declared.searching.Aim.{Aim}
-use Rattle.rb_want_search.specs.Search.{Judgements, IsFarthestStep, IsReached, Lead}
+use Rattle.rb_want_requests.specs.declared.searching.Aim.{Aim}
+use Rattle.rb_want_requests.specs.Search.{Judgements, IsFarthestStep, IsReached, Lead}
 
 leading : (judges : Judgements) (aim : Aim) (from : ℕ) (hops : List ℕ) (t h : ℕ) → Lead judges aim from hops t → t < aim.least → IsFarthestStep judges aim t h
     → Lead judges aim from (hops ++ h ∷ []) h

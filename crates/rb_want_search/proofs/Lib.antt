@@ -1,4 +1,0 @@
-pub mod Halving
-pub mod Leading
-pub mod Rounds
-pub mod Totals

@@ -1,4 +1,0 @@
-pub mod Search
-pub mod Hop
-pub mod Laws
-pub mod Rounds
