@@ -1,19 +1,25 @@
-//! Explanations as text, for a person, and as JSON, for a program.
+//! Explanations as text, for a person, as JSON, for a program, and as a picture in SVG.
 #![tactic(auto)]
 
+mod arcs;
+mod bands;
+mod columns;
 mod json;
 mod moments;
 mod names;
 mod packets;
+mod picture;
 mod pieces;
 mod refusals;
 mod steps;
+mod svg;
 mod text;
 
 pub use json::{put_json, put_json_beginning, put_json_end};
 pub use moments::push_time;
 pub use names::answer_name;
 pub use packets::message_lines;
+pub use picture::picture_of;
 pub use pieces::put;
 pub use steps::push_count;
 pub use text::{push_client, push_heading, put_text};

@@ -3,13 +3,16 @@
 use crate::arcs::{Arcs, Meaning};
 use crate::bands::{push_bands, push_heights};
 use crate::columns::{Columns, LEAST_WIDTH, MARGIN, columns_of, others_undrawn, undrawn};
+use crate::moments::push_time;
+use crate::packets::message_lines;
+use crate::steps::push_count;
 use crate::svg::{
     Anchor, Arc, Area, push_arc, push_beginning, push_box, push_circle, push_escaped, push_label,
     push_pointer,
 };
+use crate::text::{push_client, push_heading};
 use rb_base::{Height, Window};
 use rb_explain::{ClientExplanation, PricedList, TurnExplanation, Why};
-use rb_explain_text::{message_lines, push_client, push_count, push_heading, push_time};
 use rb_moments::push_instant;
 use rb_script_types::Config;
 use rb_super_turn::{ClientReport, Outcome, PlanReport, SendingReport};

@@ -1,9 +1,9 @@
 //! The arcs of a picture: updates, steps that are refused, and what a light client's bisection sends.
 use crate::columns::{Columns, MOST_REFUSED, is_drawn, is_other_drawn};
+use crate::names::answer_name;
 use crate::svg::{Anchor, Arc, push_arc, push_label};
 use rb_base::Height;
 use rb_explain::{ClientExplanation, PlanExplanation, StepExplanation, Why};
-use rb_explain_text::answer_name;
 use rb_plan_types::Update;
 use rb_step::Verdict;
 use std::alloc::{AllocError, Global};
