@@ -1,4 +1,5 @@
 use crate::same::assert_same;
+use crate::values::{height, make_heights, second};
 use rb_base::{Height, Moment};
 use rb_book::{BookError, ChainBook, Header, Record, RecordAt, Vote};
 use rb_valset::{PublicKey, Validator, ValidatorSet};
@@ -6,7 +7,6 @@ use std::alloc::{AllocError, Global};
 use std::fmt::Display;
 use std::process::Abort;
 use std::test::Fail;
-use test_values::{height, make_heights, second};
 
 const THREE: &[Vote] = &[Vote::Commit, Vote::Commit, Vote::Commit, Vote::Absent];
 

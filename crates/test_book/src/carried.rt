@@ -2,6 +2,7 @@
 ghost use Rattle.rb_book.specs.Header.{IsSignedBy};
 
 use crate::same::assert_same;
+use crate::values::{Members, height, make_set, nanosecond, options};
 use rb_base::{CarriedVotes, Fraction, Options};
 use rb_book::{Header, Record, Vote};
 use rb_step::{carried_votes, least_votes};
@@ -9,7 +10,6 @@ use rb_valset::ValidatorSet;
 use std::alloc::Global;
 use std::process::Abort;
 use std::test::Fail;
-use test_values::{Members, height, make_set, nanosecond, options};
 
 /// A step from height 1, and how many votes it carries by each choice: the commit votes, those that were
 /// cast, those that are needed, and the fewest that are needed by the own set alone.

@@ -1,5 +1,5 @@
-//! What no contract of the layers from the hashes up to the step rule says, by their public calls: sets of
-//! validators, books and steps, as tables of cases with values from outside.
+//! What no contract of the layers from the hashes up to the step rule says, by their public calls: sets of validators, books
+//! and steps, as tables of cases with values from outside; and those values, as the tables of `test_plan` write them, too.
 #![tactic(auto)]
 
 #[cfg(test)]
@@ -18,5 +18,10 @@ mod same;
 mod step;
 #[cfg(test)]
 mod valset;
+mod values;
 #[cfg(test)]
 mod votes;
+
+pub use values::{
+    Members, height, make_heights, make_set, make_set_with, nanosecond, options, second,
+};

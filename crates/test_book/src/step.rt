@@ -2,6 +2,7 @@ ghost use Rattle.std.specs.Option.{option_copied, ForSome};
 ghost use Rattle.rb_book.specs.Header.{Names, IsSignedBy};
 
 use crate::same::assert_same;
+use crate::values::{Members, height, make_heights, make_set, nanosecond, options};
 use rb_base::{FeeTable, Fraction, Height, Options, Window};
 use rb_book::{ChainBook, Header, Record, Vote};
 use rb_step::{ClientView, Reason, Verdict, accepts_in, are_known, verify};
@@ -10,7 +11,6 @@ use std::alloc::Global;
 use std::fmt::{Debug, Display};
 use std::process::Abort;
 use std::test::Fail;
-use test_values::{Members, height, make_heights, make_set, nanosecond, options};
 
 const SECOND: u128 = 1_000_000_000;
 

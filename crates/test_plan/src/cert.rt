@@ -10,7 +10,7 @@ use std::fmt::Display;
 use std::process::Abort;
 use std::test::Fail;
 use std::thread::Threads;
-use test_values::{height, make_heights, make_set_with, options, second};
+use test_book::{height, make_heights, make_set_with, options, second};
 
 /// A block at a height: the set that signed it and signs the next, as key bytes and powers, and
 /// how many validators of power 1 it has beside these. Height h has the time 10 h seconds.

@@ -16,7 +16,7 @@ use std::test::Fail;
 use std::thread;
 use std::thread::Threads;
 use std::time::{Clock, Duration};
-use test_values::{height, make_set, second};
+use test_book::{height, make_set, second};
 
 /// A header of a set of two at a height, at 10 seconds for each height; both members sign it.
 fn make_header(alloc: Global, number: u64, hash: [u8; 32]) -> Result<Header, Fail> {

@@ -8,7 +8,7 @@ use rb_step::{ClientView, are_known};
 use std::alloc::Global;
 use std::process::Abort;
 use std::test::Fail;
-use test_values::{Members, height, make_set, options, second};
+use test_book::{Members, height, make_set, options, second};
 
 const C: Vote = Vote::Commit;
 

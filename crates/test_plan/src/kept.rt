@@ -6,7 +6,7 @@ use rb_graph::{Graph, SharedGraph};
 use std::alloc::Global;
 use std::process::Abort;
 use std::test::Fail;
-use test_values::{Members, height, make_set, second};
+use test_book::{Members, height, make_set, second};
 
 /// Four members of power 10 each, some of whom are members of another set.
 const A: Members = &[(0xa1, 10), (0xa2, 10), (0xa3, 10), (0xa4, 10)];

@@ -11,7 +11,7 @@ use rb_step::{ClientView, are_known};
 use std::alloc::{AllocError, Global};
 use std::process::Abort;
 use std::test::Fail;
-use test_values::{height, make_heights, make_set_with, options, second};
+use test_book::{height, make_heights, make_set_with, options, second};
 
 /// Validators by the byte that their key repeats, with their powers, and so many others of power 1.
 #[derive(Clone, Copy)]

@@ -3,7 +3,7 @@ use rb_base::{FeeTable, Fraction, Height, Options, Window};
 use rb_graph::Graph;
 use std::alloc::Global;
 use std::test::Fail;
-use test_values::{height, options, second};
+use test_book::{height, options, second};
 
 /// An accepted step: the header's height, the record's, and the fee.
 pub type Step = (u64, u64, u64);
