@@ -7,10 +7,10 @@ use rb_explain::{
     Charges, ClientExplanation, IdleReason, PlanExplanation, Power, PricedList, Refresh, Stay,
     StepExplanation, Subject, TurnExplanation, UnreachableExplanation, WaitingMessage, Why,
 };
-use rb_moments::push_moment;
 use rb_plan_client::Message;
 use rb_plan_types::{Label, Update};
 use rb_scan::{Kind, Sequence};
+use rb_script_text::push_moment;
 use rb_script_types::{Config, Goal, Refusal, Version};
 use rb_super_turn::{
     BatchReport, ClientReport, Outcome, PlanReport, PlannedReport, RefusedEvent, SendingReport,

@@ -1,5 +1,5 @@
 //! Moments by their time of day.
-use rb_moments::{SECOND, push_instant};
+use rb_script_text::{SECOND, push_instant};
 use std::alloc::AllocError;
 
 const MINUTE: u128 = 60 * SECOND;

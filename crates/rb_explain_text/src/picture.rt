@@ -13,7 +13,7 @@ use crate::svg::{
 use crate::text::{push_client, push_heading};
 use rb_base::{Height, Window};
 use rb_explain::{ClientExplanation, PricedList, TurnExplanation, Why};
-use rb_moments::push_instant;
+use rb_script_text::push_instant;
 use rb_script_types::Config;
 use rb_super_turn::{ClientReport, Outcome, PlanReport, SendingReport};
 use std::alloc::{AllocError, Global};

@@ -1,8 +1,8 @@
 //! Steps as text.
 use rb_base::Window;
 use rb_explain::{Charges, Power, StepExplanation};
-use rb_moments::{push_instant, push_moment};
 use rb_plan_types::Update;
+use rb_script_text::{push_instant, push_moment};
 use rb_step::{Reason, Verdict};
 use std::alloc::AllocError;
 

@@ -10,8 +10,8 @@ use rb_explain::{
     ClientExplanation, IdleReason, PlanExplanation, PricedList, Refresh, StepExplanation,
     StoredHeight, TurnExplanation, UnreachableExplanation, WaitingMessage, Why,
 };
-use rb_moments::{push_instant, push_length};
 use rb_plan_types::Label;
+use rb_script_text::{push_instant, push_length};
 use rb_script_types::{Config, Goal, Version};
 use rb_step::Verdict;
 use rb_super_turn::{BatchReport, ClientReport, Outcome, PlanReport, PlannedReport, SendingReport};

@@ -4,7 +4,7 @@ ghost use Rattle.rb_messages.specs.SignedTexts.{bytes_member, bytes_text, name_t
 
 use base64::engine::general_purpose::STANDARD;
 use rb_base::Moment;
-use rb_moments::push_moment;
+use rb_script_text::push_moment;
 use std::alloc::AllocError;
 
 /// Adds bytes in base64, as a text.

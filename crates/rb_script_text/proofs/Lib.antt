@@ -1,2 +1,4 @@
 -- lemmas
 pub mod Alike
+pub mod Clocks
+pub mod Gregorian

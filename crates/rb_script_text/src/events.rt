@@ -1,8 +1,8 @@
 //! The events of a turn.
+use crate::moment::clock_at;
 use crate::names::{chain_name, client_name, path_name};
 use rb_base::{Height, Moment};
 use rb_book::{Header, Record, Vote};
-use rb_moments::clock_at;
 use rb_scan::Sequence;
 use rb_script_read::SetNames;
 use rb_script_types::{Block, BlockHeight, Config, Observation};

@@ -1,8 +1,8 @@
 //! The tables of turns.
 use crate::events::push_events;
+use crate::moment::clock_at;
 use crate::names::{chain_name, client_name};
 use rb_base::Window;
-use rb_moments::clock_at;
 use rb_script_read::SetNames;
 use rb_script_types::{Asked, Config, Goal, HostWindow, Script, Settlement, Turn};
 use std::alloc::{AllocError, Global};

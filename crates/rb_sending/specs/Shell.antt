@@ -8,7 +8,7 @@ use Rattle.rb_core_model.specs.Machine.{State, client_view}
 use Rattle.rb_import_setup.specs.declared.sender.Sender.{Sender}
 use Rattle.rb_messages.specs.Names.{file_name}
 use Rattle.rb_messages.specs.declared.update.PlannedUpdate.{PlannedUpdate}
-use Rattle.rb_moments.specs.Moments.{moment_text}
+use Rattle.rb_script_text.specs.Moments.{moment_text}
 use Rattle.rb_plan_client.specs.Draft.{Job}
 use Rattle.rb_want_requests.specs.Lines.{own_id}
 use Rattle.rb_sending.specs.Transactions.{sender_at}

@@ -11,7 +11,7 @@ use rb_core::Core;
 use rb_core_model::CoreError;
 use rb_import_setup::Sender;
 use rb_messages::{PlannedUpdate, file_name, id_of};
-use rb_moments::push_moment;
+use rb_script_text::push_moment;
 use rb_want_requests::own_id;
 use std::alloc::{AllocError, Global};
 

@@ -4,7 +4,7 @@ use Rattle.std.specs.Fmt.{decimal}
 use Rattle.std.specs.List.{enumerate_from, flat_map, list_any}
 use Rattle.std.specs.Option.{option_map_or}
 use Rattle.rb_base.specs.Window.{Span}
-use Rattle.rb_moments.specs.Moments.{moment_text}
+use Rattle.rb_script_text.specs.Moments.{moment_text}
 use Rattle.rb_plan_client.specs.Task.{Message}
 use Rattle.rb_scan.specs.Owed.{same_kind}
 use Rattle.rb_scan.specs.declared.message.Kind.{Kind}

@@ -3,7 +3,7 @@ use Rattle.std.specs.Prelude.{ℕ, ◌/◌, ◌%◌, true, List, [], ◌∷◌, 
 use Rattle.std.specs.Fmt.{digit_glyph}
 use Rattle.std.specs.List.{flat_map}
 use Rattle.rb_batch.specs.declared.transaction.Transaction.{Transaction}
-use Rattle.rb_moments.specs.Moments.{moment_text}
+use Rattle.rb_script_text.specs.Moments.{moment_text}
 use Rattle.rb_plan_types.specs.declared.cost.Cost.{Cost}
 use Rattle.rb_plan_types.specs.declared.labelling.Label.{Label}
 use Rattle.rb_plan_client.specs.Task.{Message}

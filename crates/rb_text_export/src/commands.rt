@@ -11,7 +11,7 @@ use crate::packet_commands::push_packets;
 use crate::windows::{InForce, Setting};
 use crate::words::push_option;
 use rb_base::{Moment, Window};
-use rb_moments::push_moment;
+use rb_script_text::push_moment;
 use rb_script_types::Config;
 use rb_super_turn::{
     ClientReport, Outcome, PlanReport, PricedUpdate, RefusedEvent, Report, SendingReport,

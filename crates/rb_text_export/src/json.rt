@@ -11,10 +11,10 @@ ghost use Rattle.rb_text_export.specs.ReportJson.{address_json, byte_digits, bey
 use crate::members::{push_boolean, push_comma, push_name, push_number, push_string, push_text};
 use rb_base::{ChainId, Moment, PathId};
 use rb_batch::Transaction;
-use rb_moments::push_moment;
 use rb_plan_client::Message;
 use rb_plan_types::{Cost, Label};
 use rb_scan::Kind;
+use rb_script_text::push_moment;
 use rb_script_types::{Goal, Refusal, Version};
 use rb_step::SentVotes;
 use rb_super_turn::{

@@ -4,8 +4,8 @@ use Rattle.std.specs.Prelude.{◌≡◌, ◌≢◌, ◌⊎◌, ℕ, ◌-◌, nat
 use Rattle.std.specs.List.{flat_map}
 use Rattle.std.specs.Option.{option_map_or}
 use Rattle.std.specs.Fmt.{decimal}
-use Rattle.rb_moments.specs.Lengths.{length_text}
-use Rattle.rb_moments.specs.Moments.{instant_text}
+use Rattle.rb_script_text.specs.Lengths.{length_text}
+use Rattle.rb_script_text.specs.Moments.{instant_text}
 use Rattle.rb_text_report.specs.declared.expiry.Expiry.{Expiry}
 use Rattle.rb_text_report.specs.declared.health.ClientHealth.{ClientHealth}
 

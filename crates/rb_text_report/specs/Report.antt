@@ -15,7 +15,7 @@ use Rattle.rb_plan_client.specs.Task.{Message}
 use Rattle.rb_step.specs.Sent.{SentVotes}
 use Rattle.rb_script_types.specs.declared.version.Version.{Version}
 use Rattle.rb_script_types.specs.declared.version.Version.TheVariants.{One, Two, Three, Four}
-use Rattle.rb_moments.specs.Moments.{moment_text}
+use Rattle.rb_script_text.specs.Moments.{moment_text}
 use Rattle.rb_super_turn.specs.Report.{RefusedEvent, PricedUpdate, SendingReport, nothing, too_big, batched, PlanReport, Outcome, held, idle, planned, ClientReport, SettlementReport, TurnReport, Report}
 
 -- ---- lines

@@ -5,7 +5,7 @@ ghost use Rattle.rb_text_report.specs.Lines.{clients_member, client_json, elemen
 
 use crate::expiry::Expiry;
 use crate::health::ClientHealth;
-use rb_moments::push_instant;
+use rb_script_text::push_instant;
 use std::alloc::{AllocError, Global};
 
 /// The end of a report's object.

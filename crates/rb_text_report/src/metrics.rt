@@ -6,7 +6,7 @@ ghost use Rattle.rb_text_report.specs.Metrics.{head, name_text, label, value_tex
 use crate::expiry::Expiry;
 use crate::health::ClientHealth;
 use rb_base::ChainId;
-use rb_moments::SECOND;
+use rb_script_text::SECOND;
 use rb_script_types::ClientConfig;
 use std::alloc::{AllocError, Global};
 

@@ -11,10 +11,10 @@ ghost use Rattle.rb_text_report.specs.Report.{refused_line, goal_line, label_lin
 use itoa::Buffer;
 use rb_base::{ChainId, Height, Moment, PathId};
 use rb_batch::Transaction;
-use rb_moments::push_moment;
 use rb_plan_client::Message;
 use rb_plan_types::{Cost, Label};
 use rb_scan::Kind;
+use rb_script_text::push_moment;
 use rb_script_types::{Goal, Refusal, Version};
 use rb_step::SentVotes;
 use rb_super_turn::{

@@ -5,7 +5,7 @@ ghost use Rattle.rb_text_report.specs.Lines.{distance_text, expiry_text, line_te
 
 use crate::expiry::Expiry;
 use crate::health::ClientHealth;
-use rb_moments::{push_instant, push_length};
+use rb_script_text::{push_instant, push_length};
 use std::alloc::{AllocError, Global};
 
 /// A line for each client: whether its newest consensus state is live, when it expires, and how long after the window, or

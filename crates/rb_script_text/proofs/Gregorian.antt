@@ -7,7 +7,7 @@ use Rattle.jiff_core.specs.March.{march_days}
 use Rattle.jiff_core.proofs.CalendarLemmas.{days_from_civil-day_count}
 use Rattle.jiff_core.proofs.MarchLemmas.{leap_day, march_days-suc, day_count-late, day_count-early, month_and_day, day_in_month, day_in_early_month}
 use Rattle.jiff_core.proofs.SignedLemmas.{signed_arith}
-use Rattle.rb_moments.specs.Moments.{Date, march_year, day_of_year, month_scale, date_by, date_from_march, date_of}
+use Rattle.rb_script_text.specs.Moments.{Date, march_year, day_of_year, month_scale, date_by, date_from_march, date_of}
 
 -- the year that begins in March, and how many of its days are over
 march_year-days : (days : ℕ) → march_days (march_year days) + day_of_year days ≡ days

@@ -1,6 +1,6 @@
 //! Lengths of time as texts.
 ghost use Rattle.std.specs.Prelude.{◌≡◌, ◌++◌, OnOk, string_bytes};
-ghost use Rattle.rb_moments.specs.Lengths.{length_text, two_units};
+ghost use Rattle.rb_script_text.specs.Lengths.{length_text, two_units};
 
 use std::alloc::AllocError;
 

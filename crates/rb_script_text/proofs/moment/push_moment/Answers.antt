@@ -1,5 +1,5 @@
-use Rattle.rb_moments.proofs.Clocks.{clock_text-is, moment-shown}
-use Rattle.rb_moments.proofs.moment.push_moment.Goals as goal
+use Rattle.rb_script_text.proofs.Clocks.{clock_text-is, moment-shown}
+use Rattle.rb_script_text.proofs.moment.push_moment.Goals as goal
 
 pub returns : goal.returns
 returns c =

@@ -13,8 +13,8 @@ use Rattle.jiff_core.proofs.SignedLemmas.{signed_arith}
 use Rattle.jiff.specs.Words.{civil_nanos, iso_datetime_text}
 use Rattle.jiff.proofs.Family.{civil_nanos-parts, same_datetime, parse_timestamp-text}
 use Rattle.rb_base.specs.Amount.{IsMoment}
-use Rattle.rb_moments.specs.Moments.{date_of, instant_text, last_moment, moment_text, IsShown, MomentsAreRead}
-use Rattle.rb_moments.proofs.Gregorian.{date_of-civil, date_of-day}
+use Rattle.rb_script_text.specs.Moments.{date_of, instant_text, last_moment, moment_text, IsShown, MomentsAreRead}
+use Rattle.rb_script_text.proofs.Gregorian.{date_of-civil, date_of-day}
 
 abbrev date_at : (days : ℕ) → days ≤ 2932896 → Date
 date_at days few =

@@ -1,6 +1,6 @@
 //! Moments as texts: RFC 3339, in UTC.
 ghost use Rattle.std.specs.Prelude.{◌≡◌, ◌<◌, ◌++◌, pos, IfNone, IfSome, OnOk, string_bytes};
-ghost use Rattle.rb_moments.specs.Moments.{instant_text, last_moment, moment_text, IsShown, MomentsAreRead};
+ghost use Rattle.rb_script_text.specs.Moments.{instant_text, last_moment, moment_text, IsShown, MomentsAreRead};
 ghost use Rattle.jiff.specs.Words.{civil_nanos};
 ghost use Rattle.rb_base.specs.Amount.{IsMoment};
 

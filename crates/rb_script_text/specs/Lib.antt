@@ -1,2 +1,2 @@
-pub mod Moments
 pub mod Lengths
+pub mod Moments

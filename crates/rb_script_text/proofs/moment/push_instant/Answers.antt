@@ -1,5 +1,5 @@
-use Rattle.rb_moments.proofs.Clocks.{instant_text-is}
-use Rattle.rb_moments.proofs.moment.push_instant.Goals as goal
+use Rattle.rb_script_text.proofs.Clocks.{instant_text-is}
+use Rattle.rb_script_text.proofs.moment.push_instant.Goals as goal
 
 pub returns-in-Some : goal.returns-in-Some
 returns-in-Some c =

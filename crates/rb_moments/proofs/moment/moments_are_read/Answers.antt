@@ -1,5 +1,0 @@
-use Rattle.rb_moments.proofs.Clocks.{moments_are_read}
-use Rattle.rb_moments.proofs.moment.moments_are_read.Goals as goal
-
-pub returns : goal.returns
-returns c = moments_are_read
