@@ -14,11 +14,11 @@ ghost use Rattle.rb_super_scripts.specs.AsEvents.{code_turn_as_events, IsTurnFor
 ghost use Rattle.rb_follow.specs.Drivers.{core_of};
 
 use rb_base::Gate;
+use rb_board::Team;
 use rb_core::{Core, Snapshot};
 use rb_script_types::{Config, Turn};
 use rb_super::{ParallelSupervisor, Supervisor};
 use rb_super_turn::{Crew, TurnReport};
-use rb_super_worker::Team;
 use std::alloc::{AllocError, Global};
 use std::sync::{Arc, Wait};
 use std::thread::Threads;

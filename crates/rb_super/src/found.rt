@@ -1,9 +1,9 @@
 //! What workers find, where they are told to look.
 use rb_base::{Gate, Part, WorkItem};
+use rb_board::{Inbox, Order, Team};
 use rb_core_model::Scan;
 use rb_plan_client::Draft;
 use rb_super_turn::Found;
-use rb_super_worker::{Inbox, Order, Team};
 use std::alloc::{AllocError, Global};
 use std::sync::Wait;
 

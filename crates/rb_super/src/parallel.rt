@@ -20,7 +20,7 @@ use crate::found::FoundByWorkers;
 use crate::head::{Head, close, publish, relayer_over};
 use crate::orders::{order_plans, order_scans};
 use rb_base::{Gate, Window};
-use rb_board::{Desk, open};
+use rb_board::{Desk, Inbox, Team, open};
 use rb_core::{Core, Snapshot};
 use rb_core_state::OpenBatch;
 use rb_script_types::{Asked, Config, HostWindow, Observation, Turn};
@@ -28,7 +28,6 @@ use rb_super_turn::{
     ClientReport, Crew, Heard, Relayer, TurnReport, hear_all, no_tables, plan_all, scan_all,
     settle_turn,
 };
-use rb_super_worker::{Inbox, Team};
 use std::alloc::{AllocError, Global};
 use std::marker::Model;
 use std::sync::Wait;

@@ -13,11 +13,10 @@ ghost use Rattle.rb_super_scripts.specs.AsEvents.{code_turn_as_events, as_events
 use crate::parallel::ParallelSupervisor;
 use crate::supervisor::Supervisor;
 use rb_base::{Gate, PathId};
-use rb_board::Desk;
+use rb_board::{Desk, Team};
 use rb_core::Core;
 use rb_script_types::{PathConfig, Script, Turn};
 use rb_super_turn::{Crew, Report, TurnReport};
-use rb_super_worker::Team;
 use std::alloc::{AllocError, Allocator, Global};
 use std::sync::{Arc, Wait};
 use std::thread::Threads;

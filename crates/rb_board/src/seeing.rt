@@ -4,10 +4,11 @@ ghost use Rattle.rb_core_model.specs.Snapshot.{IsBeginning};
 ghost use Rattle.rb_plan_client.specs.Draft.{IsDraft};
 ghost use Rattle.rb_core_model.specs.Machine.{client_view_refusal, path_view_refusal, state_of};
 ghost use Rattle.rb_board.specs.Unseen.{IsUnseen};
-ghost use Rattle.rb_super_worker.specs.Found.{IsDraftOf, IsScanOf};
+ghost use Rattle.rb_board.specs.Found.{IsDraftOf, IsScanOf};
 
+use crate::desk::Desk;
+use crate::error::DeskError;
 use rb_base::Part;
-use rb_board::{Desk, DeskError};
 use rb_core_model::{Scan, scan};
 use rb_graph::Graph;
 use rb_plan_client::{Draft, JobView};

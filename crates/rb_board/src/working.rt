@@ -2,14 +2,15 @@
 ghost use Rattle.std.specs.Prelude.{◌≡◌, IfSome};
 ghost use Rattle.std.specs.Option.{option_map};
 ghost use Rattle.rb_core_model.specs.Snapshot.{IsBeginning};
-ghost use Rattle.rb_super_worker.specs.Found.{IsFoundOn, found_item, ordered_item, told_after};
+ghost use Rattle.rb_board.specs.Found.{IsFoundOn, found_item, ordered_item, told_after};
 ghost use Rattle.rb_base.specs.declared.gate.WorkItem.TheVariants as item;
 
+use crate::desk::Desk;
+use crate::error::DeskError;
 use crate::finding::{Finding, Findings};
 use crate::order::{Order, Orders};
 use crate::seeing::{plan_seen, scan_seen};
 use rb_base::{Gate, Part, WorkItem};
-use rb_board::{Desk, DeskError};
 use rb_graph::Graph;
 use std::alloc::Allocator;
 use std::sync::Wait;

@@ -1,5 +1,5 @@
 use Rattle.std.proofs.Common.{◌≤◌, length, vec_capacity}
-use Rattle.rb_super_worker.proofs.team.start_workers.Given as goal
+use Rattle.rb_board.proofs.team.start_workers.Given as goal
 
 abbrev pub invariant-loop : goal.invariant-loop
 invariant-loop g l = record {

@@ -1,11 +1,11 @@
 //! A worker in a thread of its own, as its supervisor has it.
+use crate::desk::Desk;
 use crate::finding::{Finding, Findings};
 use crate::inbox::Inbox;
 use crate::order::{Order, Orders};
 use crate::working::worker_loop;
 use crossbeam_utils::sync::{Parker, Unparker};
 use rb_base::{Gate, WorkItem};
-use rb_board::Desk;
 use rb_wire::{LaneFull, Rx, Tx, lane};
 use std::alloc::Global;
 use std::sync::{Arc, Wait};

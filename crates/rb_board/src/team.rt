@@ -1,12 +1,12 @@
 //! Workers, as their supervisor has them.
 ghost use Rattle.std.specs.Prelude.{◌≤◌, length, IfOk};
 
+use crate::desk::Desk;
 use crate::inbox::Inbox;
 use crate::order::Order;
 use crate::worker::Worker;
 use crossbeam_utils::sync::Parker;
 use rb_base::{Gate, WorkItem};
-use rb_board::Desk;
 use rb_wire::LaneFull;
 use std::alloc::{AllocError, Global};
 use std::sync::{Arc, Wait};

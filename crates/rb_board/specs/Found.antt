@@ -7,10 +7,10 @@ use Rattle.rb_core_model.specs.Machine.{client_view, state_of}
 use Rattle.rb_core_model.specs.Scan.{Scan}
 use Rattle.rb_core_model.specs.Standing.{path_view}
 use Rattle.rb_board.specs.Ends.{Desk}
-use Rattle.rb_super_worker.specs.declared.finding.Finding.{Finding}
-use Rattle.rb_super_worker.specs.declared.finding.Finding.TheVariants as found
-use Rattle.rb_super_worker.specs.declared.order.Order.{Order}
-use Rattle.rb_super_worker.specs.declared.order.Order.TheVariants as order
+use Rattle.rb_board.specs.declared.finding.Finding.{Finding}
+use Rattle.rb_board.specs.declared.finding.Finding.TheVariants as found
+use Rattle.rb_board.specs.declared.order.Order.{Order}
+use Rattle.rb_board.specs.declared.order.Order.TheVariants as order
 
 -- ---- the jobs by name
 

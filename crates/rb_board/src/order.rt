@@ -1,7 +1,7 @@
 //! What workers are told to do.
+use crate::note::Note;
 use crossbeam_utils::sync::Parker;
 use rb_base::Part;
-use rb_board::Note;
 use rb_graph::SharedGraph;
 use rb_wire::Rx;
 use std::alloc::{Allocator, Global};

@@ -5,7 +5,7 @@ use Rattle.rb_base.specs.Window.{Span}
 use Rattle.rb_core_model.specs.Machine.{State, client_view, job_of, state_of}
 use Rattle.rb_core_model.specs.Standing.{ClientState}
 use Rattle.rb_plan_client.specs.Draft.{Job}
-use Rattle.rb_super_worker.proofs.seeing.plan_seen.Goals as goal
+use Rattle.rb_board.proofs.seeing.plan_seen.Goals as goal
 
 -- what is seen of a client is of that client
 of_client : (s : State) (client : ℕ) → IfSome (client_view s client) (λ (j : Job). j.client ≡ client)
