@@ -9,8 +9,8 @@ use Rattle.rb_text_report.specs.Metrics.{client_text, head}
 use Rattle.rb_text_report.specs.declared.health.ClientHealth.{ClientHealth}
 use Rattle.rb_script_config.specs.Paths.{path_ids}
 use Rattle.rb_script_types.specs.Script.{Script}
-use Rattle.rb_super_scripts.specs.AsEvents.{as_events}
-use Rattle.rb_super_scripts.specs.Judging.{IsEndOf}
+use Rattle.rb_super_turn.specs.AsEvents.{as_events}
+use Rattle.rb_super_turn.specs.Judging.{IsEndOf}
 use Rattle.rb_super_turn.specs.Phases.{standing_in}
 use Rattle.rb_super_turn.specs.Report.{Report}
 use Rattle.rb_super_turn.specs.Turns.{IsReportOf}

@@ -7,8 +7,8 @@ use Rattle.rb_script_types.specs.Script.{Script}
 use Rattle.rb_sending.specs.Batches.{batch_view, last_batches}
 use Rattle.rb_sending.specs.Updates.{last_updates, planned_view}
 use Rattle.rb_sending.specs.declared.batch.PlannedBatch.{PlannedBatch}
-use Rattle.rb_super_scripts.specs.AsEvents.{as_events}
-use Rattle.rb_super_scripts.specs.Judging.{IsEndOf}
+use Rattle.rb_super_turn.specs.AsEvents.{as_events}
+use Rattle.rb_super_turn.specs.Judging.{IsEndOf}
 use Rattle.rb_super_turn.specs.Phases.{standing_in}
 use Rattle.rb_super_turn.specs.Turns.{IsReportOf}
 use Rattle.rb_super_turn.specs.Views.{report_view}

@@ -6,7 +6,7 @@ use Rattle.std.proofs.lemmas.List.{length-map, get_or-map, map-append, map-id, t
 use Rattle.std.proofs.lemmas.List.Elements.{All-nil, All-push}
 use Rattle.std.proofs.lemmas.List.FromFn.{filter_of_map_range_with_len_more}
 use Rattle.rb_core_model.specs.Standing.{Standing}
-use Rattle.rb_super_scripts.specs.Judging.{Leads}
+use Rattle.rb_super_turn.specs.Judging.{Leads}
 use Rattle.rb_super_turn.specs.Report.{TurnReport}
 use Rattle.rb_super_turn.specs.Script.{Turn}
 use Rattle.rb_super_turn.specs.Turns.{IsTurnReport, after_turn}

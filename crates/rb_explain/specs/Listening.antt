@@ -2,7 +2,7 @@
 use Rattle.std.specs.Prelude.{◌≡◌, ℕ, ◌+◌, ◌≤◌, ◌⊎◌, Bool, true, false, List, [], ◌∷◌, ◌++◌, length, map, filter, take, slice_get, All, Option, Some, IfSome}
 use Rattle.std.specs.List.{range_with_len}
 use Rattle.rb_core_model.specs.Standing.{Standing, opening_standing}
-use Rattle.rb_super_scripts.specs.Judging.{Leads}
+use Rattle.rb_super_turn.specs.Judging.{Leads}
 use Rattle.rb_super_turn.specs.Script.{Script, Turn}
 use Rattle.rb_explain.specs.Turn.{IsTurnExplained}
 use Rattle.rb_explain.specs.Wanted.{has_turn}

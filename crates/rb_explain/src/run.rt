@@ -2,7 +2,7 @@
 ghost use Rattle.std.specs.Prelude.{◌≡◌, ℕ, List, Option, true, map, sum_by, All, IfOk, OnOk};
 ghost use denote.Param.Send.{Frees};
 ghost use Rattle.rb_script_types.specs.Script.{script_view, IsReadScript};
-ghost use Rattle.rb_super_scripts.specs.AsEvents.{as_events, code_turn_as_events, IsTurnFor, most_events};
+ghost use Rattle.rb_super_turn.specs.AsEvents.{as_events, code_turn_as_events, IsTurnFor, most_events};
 ghost use Rattle.rb_super_turn.specs.Phases.{standing_in, HasLogRoom};
 ghost use Rattle.rb_explain.specs.Listening.{Given, given, Gives, IsGivenAll, IsGivenOne, IsGivenScript};
 ghost use Rattle.rb_explain.specs.Turn.{IsExplanation};

@@ -3,7 +3,7 @@ ghost use Rattle.std.specs.Prelude.{◌≡◌, ◌<◌, ◌+◌, ◌*◌, length
 ghost use denote.Param.Send.{Frees};
 ghost use Rattle.rb_script_types.specs.Script.{IsReadObservation};
 ghost use Rattle.rb_core_model.specs.Standing.{goes_back};
-ghost use Rattle.rb_super_scripts.specs.AsEvents.{code_turn_as_events, IsTurnFor, most_events};
+ghost use Rattle.rb_super_turn.specs.AsEvents.{code_turn_as_events, IsTurnFor, most_events};
 ghost use Rattle.rb_script_types.specs.declared.script.HostWindow.{HostWindow as WindowOf};
 ghost use Rattle.rb_super_turn.specs.Phases.{standing_in, HasLogRoom, IsLater, IsPlannable, turn_heard};
 ghost use Rattle.rb_super_turn.specs.Turns.{hosts_back, after_turn, before_plans, refusals_in};

@@ -13,8 +13,8 @@ use Rattle.rb_script_types.specs.Script.{Turn as SeenTurn}
 use Rattle.rb_script_types.specs.declared.version.Version.{Version}
 use Rattle.rb_script_types.specs.declared.version.Version.TheVariants.{One, Two, Three, Four}
 use Rattle.rb_script_read.specs.Turns.{Reading}
-use Rattle.rb_super_scripts.specs.AsEvents.{turn_as_events}
-use Rattle.rb_super_scripts.proofs.OneReport.{CutsAreOne, one_turn}
+use Rattle.rb_super_turn.specs.AsEvents.{turn_as_events}
+use Rattle.rb_super_turn.proofs.OneReport.{CutsAreOne, one_turn}
 use Rattle.rb_super_turn.specs.Report.{TurnReport, Report}
 use Rattle.rb_super_turn.specs.Script.{Turn}
 use Rattle.rb_super_turn.specs.Turns.{IsTurnReport, AreTurnReports, after_turn}

@@ -10,7 +10,7 @@ use Rattle.rb_script_types.specs.declared.script.Turn.{Turn as CodeTurn}
 use Rattle.rb_core_model.specs.Event.{IsEvent}
 use Rattle.rb_core_model.specs.Seen.{observed}
 use Rattle.rb_super_turn.specs.Script.{IsSeen, IsTurn}
-use Rattle.rb_super_scripts.specs.AsEvents.{code_turn_as_events, IsTurnFor}
+use Rattle.rb_super_turn.specs.AsEvents.{code_turn_as_events, IsTurnFor}
 
 seen : (c : Config) (o : Observation Global) → IsReadObservation (length c.chains) (length c.clients) (length c.paths) o → IsSeen c (observed o)
 seen c (SetSeen chain set) is = is

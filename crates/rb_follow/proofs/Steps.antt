@@ -16,8 +16,8 @@ use Rattle.rb_script_toml.specs.Faults.{Fault, ◌>>=◌, Fails}
 use Rattle.rb_script_toml.proofs.Steps.{fails-first}
 use Rattle.rb_script_config.specs.Paths.{path_ids}
 use Rattle.rb_script_read.specs.Turns.{Reading, opening}
-use Rattle.rb_super_scripts.specs.AsEvents.{code_turn_as_events, IsTurnFor, most_events as most_of_turn}
-use Rattle.rb_super_scripts.proofs.Runs.{opened_front, opened_standing}
+use Rattle.rb_super_turn.specs.AsEvents.{code_turn_as_events, IsTurnFor, most_events as most_of_turn}
+use Rattle.rb_super_turn.proofs.Runs.{opened_front, opened_standing}
 use Rattle.rb_super_turn.specs.Phases.{standing_in, HasLogRoom, IsLater}
 use Rattle.rb_super_turn.specs.Report.{TurnReport}
 use Rattle.rb_super_turn.specs.Turns.{IsTurnReport, after_turn}

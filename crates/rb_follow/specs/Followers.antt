@@ -14,7 +14,7 @@ use Rattle.rb_script_toml.specs.Faults.{Fault, ◌>>=◌, check}
 use Rattle.rb_script_toml.specs.declared.fault.FaultName.TheVariants.{NotToml, TooManyObjects, TooManyEvents}
 use Rattle.rb_script_read.specs.Turns.{Reading, opening}
 use Rattle.rb_script_read.specs.NextTurns.{turn_of_document}
-use Rattle.rb_super_scripts.specs.AsEvents.{turn_as_events}
+use Rattle.rb_super_turn.specs.AsEvents.{turn_as_events}
 use Rattle.rb_super_turn.specs.Report.{TurnReport}
 use Rattle.rb_super_turn.specs.Script.{IsTurn}
 use Rattle.rb_super_turn.specs.Turns.{IsTurnReport, after_turn}

@@ -9,7 +9,7 @@ use Rattle.rb_script_types.specs.Config.{Config}
 use Rattle.rb_script_types.specs.Script.{Script, Turn}
 use Rattle.rb_script_config.specs.Paths.{path_ids}
 use Rattle.rb_script_read.specs.Turns.{Reading}
-use Rattle.rb_super_scripts.specs.AsEvents.{turn_as_events, as_events}
+use Rattle.rb_super_turn.specs.AsEvents.{turn_as_events, as_events}
 use Rattle.rb_super_turn.specs.Script.{IsTurn, IsScript}
 use Rattle.rb_super_turn.specs.Turns.{IsTurnReport}
 use Rattle.rb_text_report.specs.Written.{IsWriteError}

@@ -9,7 +9,7 @@ use Rattle.rb_super_laws.specs.Forgetting.{AreSparedTurns}
 use Rattle.rb_script_types.specs.Script.{Turn as SeenTurn}
 use Rattle.rb_script_types.specs.declared.version.Version.{Version}
 use Rattle.rb_script_types.specs.declared.version.Version.TheVariants.{One, Two, Three, Four}
-use Rattle.rb_super_scripts.specs.AsEvents.{turn_as_events}
+use Rattle.rb_super_turn.specs.AsEvents.{turn_as_events}
 use Rattle.rb_super_turn.specs.Report.{Report}
 use Rattle.rb_super_turn.specs.Script.{Script, IsScript}
 use Rattle.rb_super_turn.specs.Turns.{IsReportOf}

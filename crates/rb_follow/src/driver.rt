@@ -10,7 +10,7 @@ ghost use Rattle.rb_script_types.specs.Config.{config_view, IsConfig};
 ghost use Rattle.rb_super_turn.specs.Turns.{IsTurnReport, after_turn};
 ghost use Rattle.rb_super_turn.specs.Phases.{standing_in, HasLogRoom, IsLater};
 ghost use Rattle.rb_super_turn.specs.Views.{turn_report_view};
-ghost use Rattle.rb_super_scripts.specs.AsEvents.{code_turn_as_events, IsTurnFor, most_events};
+ghost use Rattle.rb_super_turn.specs.AsEvents.{code_turn_as_events, IsTurnFor, most_events};
 ghost use Rattle.rb_follow.specs.Drivers.{core_of};
 
 use rb_base::Gate;

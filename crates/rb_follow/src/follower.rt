@@ -9,7 +9,7 @@ ghost use Rattle.rb_script_read.specs.Turns.{reading_view};
 ghost use Rattle.rb_script_read.specs.NextTurns.{next_turn_view, reading_after};
 ghost use Rattle.rb_script_config.specs.Setups.{setup_view};
 ghost use Rattle.rb_script_config.specs.Paths.{path_ids};
-ghost use Rattle.rb_super_scripts.specs.AsEvents.{IsTurnFor};
+ghost use Rattle.rb_super_turn.specs.AsEvents.{IsTurnFor};
 ghost use Rattle.rb_super_turn.specs.Phases.{standing_in};
 ghost use Rattle.rb_follow.specs.Setups.{setup_of};
 ghost use Rattle.rb_follow.specs.Followers.{beginning, turn_after, read_turn, next_turn, refusing, number_if, max_turns, most_events, IsAnswerFor, IsAnswer, IsRight, room_again, tidied};

@@ -6,7 +6,7 @@ ghost use Rattle.rb_script_config.specs.Setups.{setup_view};
 ghost use Rattle.rb_core_model.specs.Event.{IsEvent};
 ghost use Rattle.rb_core_model.specs.Seen.{observed};
 ghost use Rattle.rb_super_turn.specs.Script.{IsTurn};
-ghost use Rattle.rb_super_scripts.specs.AsEvents.{code_turn_as_events, IsTurnFor};
+ghost use Rattle.rb_super_turn.specs.AsEvents.{code_turn_as_events, IsTurnFor};
 
 use rb_core_model::rules::observation_is_event;
 use rb_script_config::Setup;

@@ -19,7 +19,7 @@ use Rattle.rb_script_types.specs.declared.goal.Goal.{Goal}
 use Rattle.rb_script_types.specs.declared.script.Settlement.{Settlement}
 use Rattle.rb_step.specs.LightClient.{Update}
 use Rattle.rb_step.specs.View.{client_of}
-use Rattle.rb_super_scripts.specs.Judging.{IsWanted, Leads}
+use Rattle.rb_super_turn.specs.Judging.{IsWanted, Leads}
 use Rattle.rb_super_turn.specs.Report.{ClientReport, TurnReport}
 use Rattle.rb_super_turn.specs.Script.{Script, Turn}
 use Rattle.rb_super_turn.specs.Turns.{AreTurnReports, IsClientReport, IsOutcome, IsTurnReport, after_host_window, after_plans, after_question, after_reports, after_settlement, after_taking, after_turn, after_window, before_events, before_plans, numbered, priced, reported_plan, settlement_event, taking, takers, window_event, update_of as update_in}

@@ -11,7 +11,7 @@ use Rattle.rb_plan_types.specs.Least.{IsLeast, IsUnreachable}
 use Rattle.rb_script_types.specs.declared.goal.Goal.{Goal}
 use Rattle.rb_step.specs.LightClient.{Update}
 use Rattle.rb_step.specs.View.{client_of}
-use Rattle.rb_super_scripts.specs.Judging.{IsPlanPhase, IsWanted}
+use Rattle.rb_super_turn.specs.Judging.{IsPlanPhase, IsWanted}
 use Rattle.rb_super_turn.specs.Script.{Script}
 use Rattle.rb_super_turn.specs.Turns.{IsReportOf}
 use Rattle.rb_super_turn.specs.Views.{report_view}

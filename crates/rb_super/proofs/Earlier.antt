@@ -12,12 +12,12 @@ use Rattle.rb_core_state.proofs.Places.{found_seen}
 use Rattle.rb_script_types.specs.Config.{Config}
 use Rattle.rb_script_types.specs.Script.{Script, turn_view, IsReadScript}
 use Rattle.rb_script_types.specs.declared.script.Turn.{Turn as CodeTurn}
-use Rattle.rb_super_scripts.specs.Judging.{Leads, IsPlanPhase}
+use Rattle.rb_super_turn.specs.Judging.{Leads, IsPlanPhase}
 use Rattle.rb_super_turn.specs.Phases.{standing_in, HasLogRoom, IsLater}
 use Rattle.rb_super_turn.specs.Script.{Turn}
-use Rattle.rb_super_scripts.specs.AsEvents.{turn_as_events, as_events, code_turn_as_events, IsTurnFor, most_events}
+use Rattle.rb_super_turn.specs.AsEvents.{turn_as_events, as_events, code_turn_as_events, IsTurnFor, most_events}
 use Rattle.rb_super_turn.specs.Turns.{before_plans}
-use Rattle.rb_super_scripts.proofs.Runs.{opened_standing, turns_fit, turns_for, turns_as_events}
+use Rattle.rb_super_turn.proofs.Runs.{opened_standing, turns_fit, turns_for, turns_as_events}
 
 -- what stands at a place
 there : {X : Type 0} (xs : List X) (i : ℕ) (x : X) → i < length xs → slice_get xs i ≡ Some x → x ≡ get_or xs i x

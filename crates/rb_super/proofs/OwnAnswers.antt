@@ -13,11 +13,11 @@ use Rattle.rb_plan_types.specs.Laws.{AnswersAreOne}
 use Rattle.rb_plan_types.specs.Least.{IsUnreachable}
 use Rattle.rb_step.specs.LightClient.{Update}
 use Rattle.rb_step.specs.View.{client_of}
-use Rattle.rb_super_scripts.specs.Judging.{Leads, IsPlanPhase, IsWanted, IsPlannedGoal, IsExactAs, claim_in, IsReported}
+use Rattle.rb_super_turn.specs.Judging.{Leads, IsPlanPhase, IsWanted, IsPlannedGoal, IsExactAs, claim_in, IsReported}
 use Rattle.rb_super_turn.specs.Report.{PlanReport, PlannedReport, planned, TurnReport, Report}
 use Rattle.rb_super_turn.specs.Script.{Turn, Script}
 use Rattle.rb_super_turn.specs.Turns.{update_of, reported, reported_plan, IsOutcome, IsClientReport, IsTurnReport, AreTurnReports, IsReportOf, after_turn}
-use Rattle.rb_super_scripts.proofs.OneReport.{CutsAreOne, one_turn}
+use Rattle.rb_super_turn.proofs.OneReport.{CutsAreOne, one_turn}
 use Rattle.rb_super_turn.proofs.Reported.{updates_back}
 
 -- what stands beside an element of the second list

@@ -9,10 +9,10 @@ ghost use Rattle.rb_script_types.specs.Script.{script_view, IsReadScript};
 ghost use Rattle.rb_plan_types.specs.Answer.{labels_of, claim_of, Shows};
 ghost use Rattle.rb_plan_types.specs.Labelling.{IsSound, IsExact};
 ghost use Rattle.rb_step.specs.View.{client_of};
-ghost use Rattle.rb_super_scripts.specs.Judging.{IsPlanPhase, IsWanted, IsVerdictFor, IsVerdictIn, IsRightAs, IsExactAs, IsVerdictOn, IsRightIn, IsReported};
+ghost use Rattle.rb_super_turn.specs.Judging.{IsPlanPhase, IsWanted, IsVerdictFor, IsVerdictIn, IsRightAs, IsExactAs, IsVerdictOn, IsRightIn, IsReported};
 ghost use Rattle.rb_super_turn.specs.Phases.{standing_in, HasLogRoom, IsPlannable};
 ghost use Rattle.rb_super_turn.specs.Report.{Report};
-ghost use Rattle.rb_super_scripts.specs.AsEvents.{as_events};
+ghost use Rattle.rb_super_turn.specs.AsEvents.{as_events};
 ghost use Rattle.rb_super_turn.specs.Turns.{IsReportOf};
 
 use crate::run::run_turns;

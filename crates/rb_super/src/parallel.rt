@@ -14,7 +14,7 @@ ghost use Rattle.rb_super_turn.specs.Turns.{hosts_back, before_plans, refusals_i
 ghost use Rattle.rb_script_types.specs.declared.script.HostWindow.{HostWindow as WindowOf};
 ghost use Rattle.rb_super_turn.specs.Phases.{standing_in, HasLogRoom, IsLater, turn_heard, IsAllScanned, IsPlannable, AreReported};
 ghost use Rattle.rb_super_turn.specs.Views.{refused_view, client_report_view, turn_report_view};
-ghost use Rattle.rb_super_scripts.specs.AsEvents.{code_turn_as_events, IsTurnFor, most_events};
+ghost use Rattle.rb_super_turn.specs.AsEvents.{code_turn_as_events, IsTurnFor, most_events};
 
 use crate::found::FoundByWorkers;
 use crate::head::{Head, close, publish, relayer_over};

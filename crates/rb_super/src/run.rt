@@ -4,11 +4,11 @@ ghost use denote.Param.Send.{Frees};
 ghost use Rattle.rb_script_types.specs.declared.config.PathConfig.{PathConfig};
 ghost use Rattle.rb_script_types.specs.Config.{config_view};
 ghost use Rattle.rb_script_types.specs.Script.{script_view, IsReadScript};
-ghost use Rattle.rb_super_scripts.specs.Judging.{Leads, IsEndOf};
+ghost use Rattle.rb_super_turn.specs.Judging.{Leads, IsEndOf};
 ghost use Rattle.rb_super_turn.specs.Turns.{AreTurnReports, IsReportOf};
 ghost use Rattle.rb_super_turn.specs.Phases.{standing_in, HasLogRoom, IsLater};
 ghost use Rattle.rb_super_turn.specs.Views.{turn_report_view, report_view};
-ghost use Rattle.rb_super_scripts.specs.AsEvents.{code_turn_as_events, as_events, IsTurnFor, most_events};
+ghost use Rattle.rb_super_turn.specs.AsEvents.{code_turn_as_events, as_events, IsTurnFor, most_events};
 
 use crate::parallel::ParallelSupervisor;
 use crate::supervisor::Supervisor;

@@ -6,7 +6,7 @@ use Rattle.rb_super_turn.specs.Report.{TurnReport, Report}
 use Rattle.rb_super_turn.specs.Script.{Turn}
 use Rattle.rb_super_turn.specs.Turns.{AreTurnReports, after_turn}
 use Rattle.rb_super_laws.specs.Laws.{ReportIsOne}
-use Rattle.rb_super_scripts.proofs.OneReport.{CutsAreOne, one_turn}
+use Rattle.rb_super_turn.proofs.OneReport.{CutsAreOne, one_turn}
 
 module _ (one : AnswersAreOne) (cuts : CutsAreOne) where
   one_run : (s : Standing) (ts : List Turn) (r q : Report) → AreTurnReports s ts r → AreTurnReports s ts q → r ≡ q

@@ -15,13 +15,13 @@ use Rattle.rb_step.specs.LightClient.{Update, Client}
 use Rattle.rb_step.specs.View.{View, client_of}
 use Rattle.rb_core_model.specs.Standing.{ClientState, Standing, opening_standing}
 use Rattle.rb_plan_client.specs.Task.{Task, view_of}
-use Rattle.rb_super_scripts.specs.Judging.{Leads, IsPlanPhase, IsPlannedGoal, IsVerdictFor, IsVerdictIn}
+use Rattle.rb_super_turn.specs.Judging.{Leads, IsPlanPhase, IsPlannedGoal, IsVerdictFor, IsVerdictIn}
 use Rattle.rb_super_laws.specs.Laws.{VerdictIsOne}
 use Rattle.rb_super_turn.specs.Report.{TurnReport}
 use Rattle.rb_super_turn.specs.Script.{Turn, Script}
 use Rattle.rb_super_turn.specs.Turns.{before_plans, after_turn}
-use Rattle.rb_super_scripts.proofs.OneReport.{CutsAreOne, one_turn}
-use Rattle.rb_super_scripts.proofs.Judged.{one_known, one_task, one_goal}
+use Rattle.rb_super_turn.proofs.OneReport.{CutsAreOne, one_turn}
+use Rattle.rb_super_turn.proofs.Judged.{one_known, one_task, one_goal}
 
 -- ---- the order of reasons is total
 

@@ -8,7 +8,7 @@ use Rattle.rb_core_model.specs.Standing.{Standing, opening_standing}
 use Rattle.rb_super_turn.specs.Report.{TurnReport, Report}
 use Rattle.rb_super_turn.specs.Script.{Turn, Script}
 use Rattle.rb_super_turn.specs.Turns.{before_plans, after_turn}
-use Rattle.rb_super_scripts.specs.Judging.{Leads}
+use Rattle.rb_super_turn.specs.Judging.{Leads}
 use Rattle.rb_super_laws.specs.Laws.{PlannedViewsAreViews}
 use Rattle.rb_super_laws.specs.Fewest.{ClientTurn, AreTurnsOf, IsRun}
 use Rattle.rb_super_laws.specs.InTime.{IsPlannedIn}

@@ -11,7 +11,7 @@ use Rattle.rb_core_model.specs.Event.{Event}
 use Rattle.rb_core_model.specs.Seen.{observed}
 use Rattle.rb_super_turn.specs.Agenda.{enter_host, enter, Item, ask, plan, settle, take_open, takes, observations, both_parts, agenda}
 use Rattle.rb_super_turn.specs.Script.{Turn}
-use Rattle.rb_super_scripts.specs.AsEvents.{as_events, turn_as_events}
+use Rattle.rb_super_turn.specs.AsEvents.{as_events, turn_as_events}
 use Rattle.rb_super_laws.specs.Schedule.{appends_in, FitsLog}
 
 length-observations : (events : List Event) (number : ℕ) → length (observations number events) ≡ length events

@@ -27,7 +27,7 @@ use Rattle.rb_super_turn.specs.Turns.{after_window, window_event, after_host_win
 use Rattle.rb_super_turn.proofs.Reported.{opened_back}
 use Rattle.rb_super_turn.proofs.Takings.{taker, row_below}
 use Rattle.rb_super_turn.proofs.Sizes.{HasSizes, sizes_opening, seen_known, chain_known, client_known, at_place}
-use Rattle.rb_super_scripts.specs.Judging.{Leads, IsPlanPhase, IsClientIn}
+use Rattle.rb_super_turn.specs.Judging.{Leads, IsPlanPhase, IsClientIn}
 use Rattle.rb_super_laws.specs.Laws.{PlannedViewsAreViews}
 
 -- ---- what is kept

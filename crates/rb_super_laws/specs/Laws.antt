@@ -5,7 +5,7 @@ use Rattle.rb_plan_types.specs.Labelling.{Labels}
 use Rattle.rb_core_model.specs.Standing.{ClientState, Standing}
 use Rattle.rb_step.specs.LightClient.{Update}
 use Rattle.rb_step.specs.View.{IsView}
-use Rattle.rb_super_scripts.specs.Judging.{IsVerdictOn, IsPlanPhase, IsClientIn}
+use Rattle.rb_super_turn.specs.Judging.{IsVerdictOn, IsPlanPhase, IsClientIn}
 use Rattle.rb_plan_client.specs.Task.{Task, view_of}
 use Rattle.rb_super_turn.specs.Report.{Report}
 use Rattle.rb_super_turn.specs.Script.{Script, IsScript}

@@ -2,10 +2,10 @@
 ghost use Rattle.rb_script_types.specs.Script.{script_view, IsReadScript};
 ghost use Rattle.rb_super_laws.specs.Schedule.{FitsLog};
 ghost use Rattle.rb_super_turn.specs.Script.{IsScript};
-ghost use Rattle.rb_super_scripts.specs.AsEvents.{as_events};
+ghost use Rattle.rb_super_turn.specs.AsEvents.{as_events};
 
 use rb_script_types::Script;
-use rb_super_scripts::read_scripts_are_scripts;
+use rb_super_turn::read_scripts_are_scripts;
 use std::alloc::Allocator;
 
 /// A script that keeps what `rb_script_read::read_script` promises of each that it reads keeps what the laws of reports, of verdicts

@@ -8,7 +8,7 @@ use Rattle.rb_script_config.specs.Paths.{path_ids}
 use Rattle.rb_script_read.specs.Scripts.{script_of}
 use Rattle.rb_super_turn.specs.Report.{Report}
 use Rattle.rb_super_turn.specs.Script.{IsScript}
-use Rattle.rb_super_scripts.specs.AsEvents.{as_events}
+use Rattle.rb_super_turn.specs.AsEvents.{as_events}
 use Rattle.rb_super_turn.specs.Turns.{IsReportOf}
 use Rattle.rb_text_report.specs.Report.{text}
 

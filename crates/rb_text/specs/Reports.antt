@@ -5,7 +5,7 @@ use Rattle.std.specs.Io.KnownBytes.{Appends}
 use Rattle.rb_base.specs.Sink.{AppendsBeginning}
 use Rattle.rb_script_config.specs.Paths.{path_ids}
 use Rattle.rb_script_types.specs.Script.{Script}
-use Rattle.rb_super_scripts.specs.AsEvents.{as_events}
+use Rattle.rb_super_turn.specs.AsEvents.{as_events}
 use Rattle.rb_super_turn.specs.Report.{Report}
 use Rattle.rb_super_turn.specs.Script.{IsScript}
 use Rattle.rb_super_turn.specs.Turns.{IsReportOf}

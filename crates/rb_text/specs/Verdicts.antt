@@ -10,9 +10,9 @@ use Rattle.rb_script_toml.specs.Faults.{Fault, ◌>>=◌, check}
 use Rattle.rb_script_toml.specs.declared.fault.FaultName.TheVariants.{NoSuchTurn, NoGoal}
 use Rattle.rb_plan_types.specs.Labelling.{label_of}
 use Rattle.rb_script_types.specs.declared.config.ClientConfig.{ClientConfig}
-use Rattle.rb_super_scripts.specs.Judging.{IsVerdictOn, IsRightIn, IsReported}
+use Rattle.rb_super_turn.specs.Judging.{IsVerdictOn, IsRightIn, IsReported}
 use Rattle.rb_super_turn.specs.Report.{Report}
-use Rattle.rb_super_scripts.specs.AsEvents.{as_events}
+use Rattle.rb_super_turn.specs.AsEvents.{as_events}
 use Rattle.rb_script_types.specs.Script.{Script, script_view}
 use Rattle.rb_text.specs.declared.case.Case.{Case as CodeCase}
 use Rattle.rb_text_report.specs.VerdictLine.{verdict_line, is_yes}

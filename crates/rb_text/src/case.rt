@@ -4,7 +4,7 @@ ghost use Rattle.rb_script_toml.specs.declared.fault.Fault.{Fault as CodeFault};
 ghost use Rattle.rb_script_toml.specs.Faults.{Gives, fault_view};
 ghost use Rattle.rb_super_turn.specs.Report.{Report};
 ghost use Rattle.rb_script_types.specs.Script.{IsReadScript, script_view};
-ghost use Rattle.rb_super_scripts.specs.AsEvents.{as_events};
+ghost use Rattle.rb_super_turn.specs.AsEvents.{as_events};
 ghost use Rattle.rb_super_turn.specs.Turns.{IsReportOf};
 ghost use Rattle.rb_text_report.specs.Certificates.{certificate_view};
 ghost use Rattle.rb_text.specs.Verdicts.{case_view, case_in, case_of, IsVerdictOf, IsRightCase, IsReportedCase, no_goal};

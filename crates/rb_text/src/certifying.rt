@@ -6,7 +6,7 @@ ghost use Rattle.rb_script_toml.specs.declared.fault.Fault.{Fault as CodeFault};
 ghost use Rattle.rb_script_toml.specs.Faults.{fault_view};
 ghost use Rattle.rb_super_turn.specs.Report.{Report};
 ghost use Rattle.rb_script_types.specs.Script.{script_view, IsReadScript};
-ghost use Rattle.rb_super_scripts.specs.AsEvents.{as_events};
+ghost use Rattle.rb_super_turn.specs.AsEvents.{as_events};
 ghost use Rattle.rb_super_turn.specs.Turns.{IsReportOf};
 ghost use Rattle.rb_text_report.specs.VerdictLine.{verdict_line};
 ghost use Rattle.rb_text.specs.Verdicts.{Case, case_of, IsReportedCase, IsFaultFor, WritesVerdict, BeginsVerdict, IsCertified};

@@ -2,7 +2,7 @@ use Rattle.std.proofs.Common.{List, OnOk, refl, sym, subst}
 use Rattle.rb_core_model.specs.Standing.{Standing}
 use Rattle.rb_script_types.specs.Config.{config_view}
 use Rattle.rb_script_types.specs.Script.{script_view}
-use Rattle.rb_super_scripts.proofs.Runs.{opened_standing, turns_as_events, turns_fit, turns_for}
+use Rattle.rb_super_turn.proofs.Runs.{opened_standing, turns_as_events, turns_fit, turns_for}
 use Rattle.rb_super_turn.specs.Script.{Turn}
 use Rattle.rb_explain.specs.Listening.{IsGivenAll}
 use Rattle.rb_explain.proofs.run.explain_script.Goals as goal

@@ -7,7 +7,7 @@ use Rattle.std.proofs.lemmas.List.Sums.{sum_by_more, sum_by_more_le}
 use Rattle.std.specs.List.{sum_by}
 use Rattle.rb_core.specs.Core.{state_in}
 use Rattle.rb_script_types.specs.Config.{Config}
-use Rattle.rb_super_scripts.specs.AsEvents.{code_turn_as_events, IsTurnFor, most_events}
+use Rattle.rb_super_turn.specs.AsEvents.{code_turn_as_events, IsTurnFor, most_events}
 use Rattle.rb_super_turn.specs.Phases.{standing_in}
 use Rattle.rb_explain.specs.Listening.{IsGivenOne}
 use Rattle.rb_explain.specs.Wanted.{has_turn}

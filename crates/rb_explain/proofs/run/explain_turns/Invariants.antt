@@ -1,7 +1,7 @@
 use Rattle.std.proofs.Common.{◌≡◌, ◌+◌, ◌≤◌, map, take, length}
 use Rattle.std.specs.List.{sum_by}
 use Rattle.rb_core.specs.Core.{state_in}
-use Rattle.rb_super_scripts.specs.AsEvents.{code_turn_as_events, most_events}
+use Rattle.rb_super_turn.specs.AsEvents.{code_turn_as_events, most_events}
 use Rattle.rb_super_turn.specs.Phases.{standing_in}
 use Rattle.rb_explain.proofs.Listeners.{IsSoFar}
 use Rattle.rb_explain.proofs.run.explain_turns.Given as goal

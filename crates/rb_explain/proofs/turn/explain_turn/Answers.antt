@@ -6,11 +6,11 @@ use Rattle.rb_script_types.specs.Config.{Config}
 use Rattle.rb_script_types.specs.declared.script.Asked.{Asked}
 use Rattle.rb_script_types.specs.declared.script.HostWindow.{HostWindow}
 use Rattle.rb_script_types.specs.declared.script.Settlement.{Settlement}
-use Rattle.rb_super_scripts.specs.AsEvents.{code_turn_as_events}
+use Rattle.rb_super_turn.specs.AsEvents.{code_turn_as_events}
 use Rattle.rb_super_turn.specs.Phases.{standing_in, turn_heard, IsPlannable}
 use Rattle.rb_super_turn.specs.Turns.{after_turn, before_plans, IsTurnReport}
 use Rattle.rb_super_turn.specs.Views.{refused_view, client_report_view, settlement_view}
-use Rattle.rb_super_scripts.proofs.Whole.{turn_done}
+use Rattle.rb_super_turn.proofs.Whole.{turn_done}
 use Rattle.rb_core_model.specs.Seen.{observed}
 use Rattle.rb_script_types.specs.declared.observation.Observation.{Observation}
 use Rattle.rb_explain.specs.Subjects.{AreSubjects}

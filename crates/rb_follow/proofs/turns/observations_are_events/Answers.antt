@@ -2,7 +2,7 @@ use Rattle.std.specs.declared.alloc.Global.{Global}
 use Rattle.rb_script_types.specs.declared.observation.Observation.{Observation}
 use Rattle.rb_core_model.specs.Event.{IsEvent}
 use Rattle.rb_core_model.specs.Seen.{observed}
-use Rattle.rb_super_scripts.proofs.AsEventsLemmas.{all_taken, one_more}
+use Rattle.rb_super_turn.proofs.AsEventsLemmas.{all_taken, one_more}
 use Rattle.rb_follow.proofs.turns.observations_are_events.Goals as goal
 
 pub loop-observation-preserved : goal.loop-observation-preserved

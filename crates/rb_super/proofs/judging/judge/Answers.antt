@@ -3,7 +3,7 @@ use Rattle.std.proofs.lemmas.Result.{IfOk-weaker}
 use Rattle.rb_script_types.specs.Script.{script_view}
 use Rattle.rb_plan_types.specs.Answer.{labels_of, claim_of}
 use Rattle.rb_super_turn.specs.Phases.{standing_in}
-use Rattle.rb_super_scripts.specs.AsEvents.{as_events}
+use Rattle.rb_super_turn.specs.AsEvents.{as_events}
 use Rattle.rb_super.proofs.OwnAnswers.{own_answer}
 use Rattle.rb_super.proofs.judging.judge.Goals as goal
 

@@ -1,5 +1,5 @@
 use Rattle.std.proofs.Common.{None, refl}
-use Rattle.rb_super_scripts.proofs.Judged.{held_there, held_alone}
+use Rattle.rb_super_turn.proofs.Judged.{held_there, held_alone}
 use Rattle.rb_super.proofs.judging.verdict_on.Goals as goal
 
 pub returns-in-Some-clause-judged : goal.returns-in-Some-clause-judged

@@ -4,8 +4,8 @@ use Rattle.rb_script_types.specs.declared.goal.Goal.{Goal}
 use Rattle.rb_plan_types.specs.Answer.{labels_of, claim_of, Shows}
 use Rattle.rb_plan_types.specs.Labelling.{IsSound, IsExact}
 use Rattle.rb_step.specs.View.{View, client_of}
-use Rattle.rb_super_scripts.specs.Judging.{IsVerdictFor}
-use Rattle.rb_super_scripts.proofs.Judged.{judged_there, right_there, accepts_there}
+use Rattle.rb_super_turn.specs.Judging.{IsVerdictFor}
+use Rattle.rb_super_turn.proofs.Judged.{judged_there, right_there, accepts_there}
 use Rattle.rb_super.proofs.judging.verdict_unheld.Goals as goal
 
 pub returns-clause-judged : goal.returns-clause-judged

@@ -1,7 +1,7 @@
 use Rattle.std.proofs.Common.{◌≡◌, Option, Some, None, sym, ap, ◌∙◌, subst}
 use Rattle.std.specs.Option.{option_map}
 use Rattle.rb_plan_client.specs.Draft.{Job, Draft, Planned, IsAnswer, IsDraft}
-use Rattle.rb_super_scripts.specs.Judging.{IsWanted}
+use Rattle.rb_super_turn.specs.Judging.{IsWanted}
 use Rattle.rb_super.proofs.judging.wanted.Goals as goal
 
 -- what a job's draft is for

@@ -5,7 +5,7 @@ use Rattle.rb_script_types.specs.Script.{script_view}
 use Rattle.rb_super_turn.specs.Script.{Turn}
 use Rattle.rb_super_turn.specs.Turns.{AreTurnReports}
 use Rattle.rb_super_turn.specs.Views.{turn_report_view}
-use Rattle.rb_super_scripts.proofs.Runs.{opened_standing, turns_fit, turns_for, turns_as_events}
+use Rattle.rb_super_turn.proofs.Runs.{opened_standing, turns_fit, turns_for, turns_as_events}
 use Rattle.rb_super.proofs.run.run_by_team.Goals as goal
 
 pub turns_by_workers-requires-clause-turns : goal.turns_by_workers-requires-clause-turns

@@ -4,12 +4,12 @@ use Rattle.rb_core_model.specs.Standing.{Standing, opening_standing}
 use Rattle.rb_script_types.specs.Config.{config_view}
 use Rattle.rb_script_types.specs.Script.{script_view, turn_view}
 use Rattle.rb_super_turn.specs.Script.{Turn}
-use Rattle.rb_super_scripts.specs.AsEvents.{turn_as_events}
-use Rattle.rb_super_scripts.specs.Judging.{Leads}
+use Rattle.rb_super_turn.specs.AsEvents.{turn_as_events}
+use Rattle.rb_super_turn.specs.Judging.{Leads}
 use Rattle.rb_super_turn.specs.Phases.{standing_in}
 use Rattle.rb_super_turn.specs.Turns.{AreTurnReports}
 use Rattle.rb_super_turn.specs.Views.{turn_report_view}
-use Rattle.rb_super_scripts.proofs.Runs.{opened_standing, turns_fit, turns_for, turns_as_events}
+use Rattle.rb_super_turn.proofs.Runs.{opened_standing, turns_fit, turns_for, turns_as_events}
 use Rattle.rb_super.proofs.run.run_to_end.Goals as goal
 
 pub run_turns-requires-clause-turns : goal.run_turns-requires-clause-turns

@@ -7,15 +7,15 @@ use Rattle.std.proofs.lemmas.List.Sums.{sum_by_more, sum_by_more_le}
 use Rattle.std.specs.List.{sum_by}
 use Rattle.rb_core.specs.Core.{state_in}
 use Rattle.rb_script_types.specs.Config.{Config}
-use Rattle.rb_super_scripts.specs.Judging.{Leads}
+use Rattle.rb_super_turn.specs.Judging.{Leads}
 use Rattle.rb_super_turn.specs.Phases.{standing_in}
 use Rattle.rb_super_turn.specs.Report.{Report}
 use Rattle.rb_super_turn.specs.Script.{Turn}
 use Rattle.rb_super_turn.specs.Turns.{AreTurnReports}
-use Rattle.rb_super_scripts.specs.AsEvents.{code_turn_as_events, IsTurnFor, most_events}
+use Rattle.rb_super_turn.specs.AsEvents.{code_turn_as_events, IsTurnFor, most_events}
 use Rattle.rb_super_turn.specs.Views.{turn_report_view}
 use Rattle.rb_super_turn.proofs.Loops.{seen_more}
-use Rattle.rb_super_scripts.proofs.Runs.{Reach, reach_more, reach_reports, reach_leads}
+use Rattle.rb_super_turn.proofs.Runs.{Reach, reach_more, reach_reports, reach_leads}
 use Rattle.rb_super.proofs.run.run_turns.Goals as goal
 
 pub turn-requires-clause-turn : goal.turn-requires-clause-turn

@@ -3,8 +3,8 @@ use Rattle.std.specs.List.{sum_by}
 use Rattle.rb_core.specs.Core.{state_in}
 use Rattle.rb_super_turn.specs.Phases.{standing_in}
 use Rattle.rb_super_turn.specs.Views.{turn_report_view}
-use Rattle.rb_super_scripts.specs.AsEvents.{code_turn_as_events, most_events}
-use Rattle.rb_super_scripts.proofs.Runs.{Reach}
+use Rattle.rb_super_turn.specs.AsEvents.{code_turn_as_events, most_events}
+use Rattle.rb_super_turn.proofs.Runs.{Reach}
 use Rattle.rb_super.proofs.run.run_turns.Given as goal
 
 abbrev pub invariant-loop-turn : goal.invariant-loop-turn

@@ -8,15 +8,15 @@ use Rattle.std.specs.List.{sum_by}
 use Rattle.std.specs.Result.{OnOk}
 use Rattle.rb_core.specs.Core.{Core, state_in}
 use Rattle.rb_script_types.specs.Config.{Config}
-use Rattle.rb_super_scripts.specs.Judging.{Leads}
+use Rattle.rb_super_turn.specs.Judging.{Leads}
 use Rattle.rb_super_turn.specs.Phases.{standing_in}
 use Rattle.rb_super_turn.specs.Report.{Report}
 use Rattle.rb_super_turn.specs.Script.{Turn}
 use Rattle.rb_super_turn.specs.Turns.{AreTurnReports}
-use Rattle.rb_super_scripts.specs.AsEvents.{code_turn_as_events, IsTurnFor, most_events}
+use Rattle.rb_super_turn.specs.AsEvents.{code_turn_as_events, IsTurnFor, most_events}
 use Rattle.rb_super_turn.specs.Views.{turn_report_view}
 use Rattle.rb_super_turn.proofs.Loops.{seen_more}
-use Rattle.rb_super_scripts.proofs.Runs.{Reach, reach_more, reach_reports, reach_leads}
+use Rattle.rb_super_turn.proofs.Runs.{Reach, reach_more, reach_reports, reach_leads}
 use Rattle.rb_super.proofs.run.turns_by_workers.Goals as goal
 
 pub turn-requires-clause-turn : goal.turn-requires-clause-turn

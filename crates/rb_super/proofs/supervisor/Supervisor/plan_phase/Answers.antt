@@ -5,7 +5,7 @@ use Rattle.rb_script_types.specs.Script.{IsReadObservation}
 use Rattle.rb_script_types.specs.declared.script.Asked.{Asked}
 use Rattle.rb_script_types.specs.declared.script.HostWindow.{HostWindow}
 use Rattle.rb_super_turn.specs.Phases.{standing_in, HasLogRoom, turn_heard}
-use Rattle.rb_super_scripts.specs.AsEvents.{code_turn_as_events, most_events}
+use Rattle.rb_super_turn.specs.AsEvents.{code_turn_as_events, most_events}
 use Rattle.rb_super_turn.specs.Turns.{before_plans}
 use Rattle.rb_super.proofs.supervisor.Supervisor.plan_phase.Goals as goal
 

@@ -6,11 +6,11 @@ use Rattle.rb_script_types.specs.declared.script.Asked.{Asked}
 use Rattle.rb_script_types.specs.declared.script.HostWindow.{HostWindow}
 use Rattle.rb_script_types.specs.declared.script.Settlement.{Settlement}
 use Rattle.rb_super_turn.specs.Phases.{HasLogRoom, IsLater}
-use Rattle.rb_super_scripts.specs.AsEvents.{most_events}
+use Rattle.rb_super_turn.specs.AsEvents.{most_events}
 use Rattle.rb_core.specs.Core.{Core}
 use Rattle.rb_script_types.specs.Config.{Config}
 use Rattle.rb_super_turn.specs.Views.{refused_view, client_report_view, settlement_view}
-use Rattle.rb_super_scripts.proofs.Whole.{turn_done}
+use Rattle.rb_super_turn.proofs.Whole.{turn_done}
 use Rattle.rb_super.proofs.supervisor.Supervisor.turn.Goals as goal
 
 pub returns-clause-report : goal.returns-clause-report

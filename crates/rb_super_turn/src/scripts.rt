@@ -6,7 +6,7 @@ ghost use Rattle.rb_script_types.specs.declared.script.Turn.{Turn as CodeTurn};
 ghost use Rattle.rb_core_model.specs.Event.{IsEvent};
 ghost use Rattle.rb_core_model.specs.Seen.{observed};
 ghost use Rattle.rb_super_turn.specs.Script.{IsScript};
-ghost use Rattle.rb_super_scripts.specs.AsEvents.{as_events};
+ghost use Rattle.rb_super_turn.specs.AsEvents.{as_events};
 
 use rb_core_model::rules::{fee_tables, observation_is_event};
 use rb_script_types::{Observation, Script, Turn};

@@ -1,8 +1,8 @@
 use Rattle.std.proofs.Common.{List, All, subst}
 use Rattle.rb_base.specs.Fee.{IsFeeTable}
 use Rattle.rb_script_types.specs.declared.config.ClientConfig.{ClientConfig}
-use Rattle.rb_super_scripts.proofs.AsEventsLemmas.{script}
-use Rattle.rb_super_scripts.proofs.scripts.read_scripts_are_scripts.Goals as goal
+use Rattle.rb_super_turn.proofs.AsEventsLemmas.{script}
+use Rattle.rb_super_turn.proofs.scripts.read_scripts_are_scripts.Goals as goal
 
 pub returns : goal.returns
 returns g c =

@@ -10,12 +10,12 @@ use Rattle.rb_core_model.specs.Standing.{Standing, opening_standing}
 use Rattle.rb_script_types.specs.Config.{Config}
 use Rattle.rb_script_types.specs.Script.{Script, turn_view, entry_count, IsReadTurn, IsReadScript}
 use Rattle.rb_script_types.specs.declared.script.Turn.{Turn as CodeTurn}
-use Rattle.rb_super_scripts.specs.Judging.{Leads}
+use Rattle.rb_super_turn.specs.Judging.{Leads}
 use Rattle.rb_super_turn.specs.Report.{TurnReport, Report}
 use Rattle.rb_super_turn.specs.Script.{Turn}
 use Rattle.rb_super_turn.specs.Turns.{IsTurnReport, AreTurnReports, after_turn}
 use Rattle.rb_super_turn.specs.Phases.{standing_in, HasLogRoom}
-use Rattle.rb_super_scripts.specs.AsEvents.{turn_as_events, code_turn_as_events, IsTurnFor, most_events}
+use Rattle.rb_super_turn.specs.AsEvents.{turn_as_events, code_turn_as_events, IsTurnFor, most_events}
 
 -- the turns, reported so, lead from the one standing to the other
 abbrev pub Reach : Standing → List Turn → Report → Standing → Type 0

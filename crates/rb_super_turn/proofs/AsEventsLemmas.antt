@@ -13,7 +13,7 @@ use Rattle.rb_core_model.specs.Config.{IsSetUp}
 use Rattle.rb_core_model.specs.Event.{IsEvent}
 use Rattle.rb_core_model.specs.Seen.{observed}
 use Rattle.rb_super_turn.specs.Script.{IsScript, IsSeen, IsTurn}
-use Rattle.rb_super_scripts.specs.AsEvents.{as_events, code_turn_as_events, turn_as_events}
+use Rattle.rb_super_turn.specs.AsEvents.{as_events, code_turn_as_events, turn_as_events}
 
 -- one element more, and all
 pub one_more : {X : Type 0} (P : X → Type 0) (xs : List X) (i : ℕ) (x : X) → i < length xs → x ≡ get_or xs i x → P x → All P (take i xs) → All P (take (i + 1) xs)

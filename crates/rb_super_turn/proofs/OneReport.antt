@@ -26,7 +26,7 @@ use Rattle.rb_plan_client.specs.Task.{Task, Message, view_of, next_moment, goal_
 use Rattle.rb_super_turn.specs.Report.{Outcome, held, idle, planned, ClientReport, TurnReport}
 use Rattle.rb_super_turn.specs.Script.{Turn}
 use Rattle.rb_super_turn.specs.Turns.{told_too_big, reported, IsOutcome, IsClientReport, before_plans, after_plans, reports_of_all, IsTurnReport}
-use Rattle.rb_super_scripts.proofs.OneLabelling.{one_labelling}
+use Rattle.rb_super_turn.proofs.OneLabelling.{one_labelling}
 
 -- ---- no message of a division is too big alone
 

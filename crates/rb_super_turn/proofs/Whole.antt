@@ -8,7 +8,7 @@ use Rattle.rb_script_types.specs.declared.script.Settlement.{Settlement}
 use Rattle.rb_script_types.specs.declared.script.Turn.{Turn as CodeTurn}
 use Rattle.rb_super_turn.specs.Phases.{standing_in, turn_heard, AreReported}
 use Rattle.rb_super_turn.specs.Report.{RefusedEvent, ClientReport, SettlementReport, TurnReport}
-use Rattle.rb_super_scripts.specs.AsEvents.{code_turn_as_events}
+use Rattle.rb_super_turn.specs.AsEvents.{code_turn_as_events}
 use Rattle.rb_super_turn.specs.Turns.{hosts_back, before_plans, refusals_in, after_all, reports_of_all, IsTurnReport, after_turn}
 use Rattle.rb_super_turn.proofs.Phases.{turn_reported}
 use Rattle.rb_super_turn.proofs.Steps.{sizes_in}

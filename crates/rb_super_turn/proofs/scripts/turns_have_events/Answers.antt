@@ -3,8 +3,8 @@ use Rattle.rb_script_types.specs.declared.observation.Observation.{Observation}
 use Rattle.rb_script_types.specs.declared.script.Turn.{Turn}
 use Rattle.rb_core_model.specs.Event.{IsEvent}
 use Rattle.rb_core_model.specs.Seen.{observed}
-use Rattle.rb_super_scripts.proofs.AsEventsLemmas.{all_taken, one_more}
-use Rattle.rb_super_scripts.proofs.scripts.turns_have_events.Goals as goal
+use Rattle.rb_super_turn.proofs.AsEventsLemmas.{all_taken, one_more}
+use Rattle.rb_super_turn.proofs.scripts.turns_have_events.Goals as goal
 
 pub loop-turn-preserved : goal.loop-turn-preserved
 loop-turn-preserved g c =

@@ -19,9 +19,9 @@ use Rattle.rb_plan_types.specs.Answer.{Shows}
 use Rattle.rb_plan_types.specs.Labelling.{Labels, IsSound, IsExact}
 use Rattle.rb_step.specs.LightClient.{Update}
 use Rattle.rb_step.specs.View.{client_of}
-use Rattle.rb_super_scripts.specs.Judging.{IsClientIn, IsWanted, IsPlannedGoal, IsVerdictFor, IsVerdictIn, IsRightAs, IsExactAs}
+use Rattle.rb_super_turn.specs.Judging.{IsClientIn, IsWanted, IsPlannedGoal, IsVerdictFor, IsVerdictIn, IsRightAs, IsExactAs}
 use Rattle.rb_super_turn.specs.Phases.{standing_in, HasLogRoom, IsPlannable}
-use Rattle.rb_super_scripts.proofs.OneReport.{one_reach}
+use Rattle.rb_super_turn.proofs.OneReport.{one_reach}
 use Rattle.rb_super_turn.proofs.Plans.{known_at, client_of_view, draft_accepted}
 
 -- ---- the client is one, and so is its goal

@@ -1,6 +1,0 @@
-pub mod OneLabelling
-pub mod OneReport
-pub mod Whole
-pub mod Judged
-pub mod Runs
-pub mod AsEventsLemmas

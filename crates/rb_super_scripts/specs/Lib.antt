@@ -1,2 +1,0 @@
-pub mod AsEvents
-pub mod Judging
