@@ -11,7 +11,7 @@ use Rattle.std.proofs.lemmas.Option.{slice_get-get_or, slice_get-map, slice_get_
 use Rattle.std.proofs.lemmas.List.Sorted.{sum_by-IsPermutation}
 use Rattle.rb_book.specs.Header.{Header}
 use Rattle.rb_book.specs.Book.{Book}
-use Rattle.rb_graph_rows.specs.StoredRow.{StoredRow, stored_row_of}
+use Rattle.rb_graph.specs.StoredRow.{StoredRow, stored_row_of}
 use Rattle.rb_graph.specs.declared.error.TableError.{TableError}
 use Rattle.rb_graph.specs.declared.error.TableError.TheVariants.{RowMissing, RowTwice, NoMemory}
 use Rattle.rb_graph.specs.TableError.{Explains}

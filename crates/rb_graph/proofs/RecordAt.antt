@@ -7,8 +7,8 @@ use Rattle.rb_book.specs.Book.{Book, set_of, record_at, header_at}
 use Rattle.rb_book.specs.Invariant.{IsBacked}
 use Rattle.rb_step.specs.StepRule.{Step, step_of}
 use Rattle.rb_step.specs.KnownStep.{step_at}
-use Rattle.rb_graph_rows.specs.StoredRow.{own_set}
-use Rattle.rb_graph_rows.proofs.OwnSet.{own_known}
+use Rattle.rb_graph.specs.StoredRow.{own_set}
+use Rattle.rb_graph.proofs.OwnSet.{own_known}
 
 module _ (b : Book) (t height : ℕ) where
   abbrev by_own : Record → Header → Option (List Member) → Option Step

@@ -15,14 +15,14 @@ use Rattle.rb_step.specs.StepRule.{Step, AcceptsWithin}
 use Rattle.rb_step.specs.KnownStep.{step_at}
 use Rattle.rb_step.specs.Laws.{SuccessIsAcceptance, LeastFeeIsLeast}
 use Rattle.rb_graph.specs.StepTable.{Target, IsStepFee}
-use Rattle.rb_graph_rows.specs.StoredRow.{own_set}
+use Rattle.rb_graph.specs.StoredRow.{own_set}
 use Rattle.rb_graph.specs.Source.{lower_records, Source, source_of, step_from, is_accepted_from, fee_from}
 use Rattle.rb_graph.proofs.Charges.{own_valid}
 use Rattle.rb_graph.proofs.Filtered.{low-within}
 use Rattle.rb_graph.proofs.Headers.{backed_at}
 use Rattle.rb_graph.proofs.Into.{accepted_is, step_is}
 use Rattle.rb_graph.proofs.RecordAt.{no_header}
-use Rattle.rb_graph_rows.proofs.Rising.{heights_up}
+use Rattle.rb_graph.proofs.Rising.{heights_up}
 use Rattle.rb_graph.proofs.Lower.{lower-at, length-lower}
 use Rattle.rb_graph.proofs.Members.{find-In, in_at}
 

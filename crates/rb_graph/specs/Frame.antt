@@ -1,7 +1,7 @@
 -- The rows of a step table one by one, and when they are all its rows (own choice of form).
 use Rattle.std.specs.Prelude.{◌≡◌, ℕ, ◌<◌, ◌≤◌, ◌==◌, List, map, count_by, Some, slice_get}
 use Rattle.rb_book.specs.Book.{Book}
-use Rattle.rb_graph_rows.specs.StoredRow.{StoredRow, stored_row_of}
+use Rattle.rb_graph.specs.StoredRow.{StoredRow, stored_row_of}
 
 -- a row by itself: its number, and what the table keeps of the header at that place
 pub record FrameRow : Type 0 where

@@ -14,7 +14,7 @@ use Rattle.rb_step.specs.Fee.{fee_of}
 use Rattle.rb_step.specs.Answer.{answer_within}
 use Rattle.rb_step.specs.declared.verdict.Verdict.{Verdict}
 use Rattle.rb_step.specs.declared.verdict.Verdict.TheVariants.{Success, NotEnoughTrust, Invalid}
-use Rattle.rb_graph_rows.specs.StoredRow.{own_set}
+use Rattle.rb_graph.specs.StoredRow.{own_set}
 
 -- a header in its book
 pub record Source : Type 0 where

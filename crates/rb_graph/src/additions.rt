@@ -2,13 +2,14 @@
 ghost use Rattle.std.specs.Prelude.{◌≡◌, IfErr, OnOk, OnErr, None};
 ghost use Rattle.rb_book.specs.Intake.{record_refusal, header_refusal, set_refusal, after_record, after_header, after_set, IsRefusal};
 
+use crate::build::first_naming;
 use crate::graph::Graph;
+use crate::lanes::enter_set;
+use crate::reached::{
+    enter_powers, enter_record, late_powers, lower_headers, lower_sets, move_places, new_row,
+};
 use rb_base::Height;
 use rb_book::{BookError, Header, Record};
-use rb_graph_rows::{
-    enter_powers, enter_record, enter_set, first_naming, late_powers, lower_headers, lower_sets,
-    move_places, new_row,
-};
 use rb_valset::ValidatorSet;
 use std::alloc::Allocator;
 

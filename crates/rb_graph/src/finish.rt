@@ -9,7 +9,8 @@ use crate::error::TableError;
 use crate::frame::Frame;
 use crate::frame_row::FrameRow;
 use crate::graph::Graph;
-use rb_graph_rows::{Lanes, StoredRow};
+use crate::lanes::Lanes;
+use crate::stored_row::StoredRow;
 use std::alloc::{Allocator, Global};
 
 impl<A: Allocator + Copy> Frame<A> {

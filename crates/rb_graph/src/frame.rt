@@ -1,13 +1,14 @@
 //! A book whose rows are to be made.
 ghost use Rattle.std.specs.Prelude.{◌≡◌, ◌<◌, All, IfOk, Some, length, map, slice_get};
 ghost use Rattle.rb_book.specs.Invariant.{IsBacked};
-ghost use Rattle.rb_graph_rows.specs.StoredRow.{first_naming};
+ghost use Rattle.rb_graph.specs.StoredRow.{first_naming};
 ghost use Rattle.rb_graph.specs.Frame.{IsRowOf, IsWhole};
 
+use crate::build::{first_namings, next_places, stored_row_of};
 use crate::frame_row::FrameRow;
+use crate::numbers::{number_sets, tallies_of};
 use rb_base::Height;
 use rb_book::{ChainBook, Header};
-use rb_graph_rows::{first_namings, next_places, number_sets, stored_row_of, tallies_of};
 use rb_lanes::{Columns, Tally};
 use std::alloc::{AllocError, Allocator, Global};
 use std::marker::Model;
@@ -27,8 +28,8 @@ pub struct Frame<A: Allocator = Global> {
 impl<A: Allocator> Model for Frame<A> {
     ghost use Rattle.std.specs.Prelude.{◌≡◌, map, All};
     ghost use Rattle.rb_book.specs.Book.{Book};
-    ghost use Rattle.rb_graph_rows.specs.StoredRow as tables;
-    ghost use Rattle.rb_graph_rows.specs.Numbering as numbers;
+    ghost use Rattle.rb_graph.specs.StoredRow as tables;
+    ghost use Rattle.rb_graph.specs.Numbering as numbers;
 
     ghost Value = { Book };
 

@@ -2,8 +2,9 @@
 ghost use Rattle.std.specs.Prelude.{◌≡◌, ◌↔◌, IsTrue};
 ghost use Rattle.rb_graph.specs.Frame.{IsRowOf};
 
+use crate::build::is_stored_row_of;
 use crate::frame::Frame;
-use rb_graph_rows::{StoredRow, is_stored_row_of};
+use crate::stored_row::StoredRow;
 use std::alloc::{Allocator, Global};
 use std::marker::Model;
 

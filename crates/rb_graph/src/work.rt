@@ -1,10 +1,11 @@
 //! What additions to a step table cost beside what making the table anew takes, both in about nanoseconds.
 //! Nothing rests on these counts but whether a table is kept up or let go.
 
+use crate::build::first_naming;
 use crate::graph::Graph;
+use crate::reached::lower_headers;
 use rb_base::Height;
 use rb_book::{ChainBook, Header, Record};
-use rb_graph_rows::{first_naming, lower_headers};
 use rb_valset::ValidatorSet;
 use std::alloc::Allocator;
 

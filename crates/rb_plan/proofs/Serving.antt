@@ -16,11 +16,11 @@ use Rattle.rb_base.specs.Window.{IsWithin}
 use Rattle.rb_book.specs.Book.{Book, RecordAt, height_of, time_of, heights_of, is_at, set_of, record_at, header_at}
 use Rattle.rb_book.specs.Header.{Record, Header}
 use Rattle.rb_book.specs.Invariant.{IsBacked}
-use Rattle.rb_graph_rows.specs.StoredRow.{own_set}
+use Rattle.rb_graph.specs.StoredRow.{own_set}
 use Rattle.rb_graph.specs.StepTable.{IsStepFee}
 use Rattle.rb_graph.proofs.Headers.{backed_at}
 use Rattle.rb_graph.proofs.RecordAt.{known_step}
-use Rattle.rb_graph_rows.proofs.Rising.{heights_up}
+use Rattle.rb_graph.proofs.Rising.{heights_up}
 use Rattle.rb_graph.proofs.Members.{find-In, in_at}
 use Rattle.rb_base.specs.Fraction.{Exceeds}
 use Rattle.rb_base.specs.Fee.{charge_of}

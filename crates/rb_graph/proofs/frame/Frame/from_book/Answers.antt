@@ -2,7 +2,7 @@ use Rattle.std.proofs.Common.{List, map, arith, ap, subst, ◌∙◌}
 use Rattle.std.specs.List.{All}
 use Rattle.rb_valset.specs.Validator.{Member}
 use Rattle.rb_book.specs.Book.{address_count}
-use Rattle.rb_graph_rows.specs.Numbering.{AreNumbered, entries_of}
+use Rattle.rb_graph.specs.Numbering.{AreNumbered, entries_of}
 use Rattle.rb_graph.proofs.frame.Frame.from_book.Goals as goal
 
 pub number_sets-requires : goal.number_sets-requires

@@ -1,6 +1,6 @@
 use Rattle.std.proofs.Common.{◌≡◌, Some, slice_get, subst, sym, ap, ◌∙◌}
 use Rattle.rb_book.specs.Book.{Book}
-use Rattle.rb_graph_rows.specs.StoredRow.{stored_row_of}
+use Rattle.rb_graph.specs.StoredRow.{stored_row_of}
 use Rattle.rb_graph.specs.Frame.{FrameRow, kept_rows}
 use Rattle.rb_graph.proofs.Finishing.{row_there}
 use Rattle.rb_graph.proofs.frame.Frame.row.Goals as goal

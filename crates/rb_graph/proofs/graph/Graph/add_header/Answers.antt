@@ -8,10 +8,10 @@ use Rattle.rb_book.specs.Book.{Book, header_at, header_is_below}
 use Rattle.rb_book.specs.Header.{Header}
 use Rattle.rb_book.specs.Intake.{header_refusal, record_refusal, after_record}
 use Rattle.rb_book.proofs.Puts.{record_accepted}
-use Rattle.rb_graph_rows.specs.StoredRow.{StoredRow, next_places, first_naming, stored_row_of}
-use Rattle.rb_graph_rows.specs.Numbering.{AreLanesOf}
-use Rattle.rb_graph_rows.proofs.Inserted.{written_over}
-use Rattle.rb_graph_rows.proofs.Entered.{some_map, none_from, places_with_header, sets_with_header, lowest_with_header, rows_with_header}
+use Rattle.rb_graph.specs.StoredRow.{StoredRow, next_places, first_naming, stored_row_of}
+use Rattle.rb_graph.specs.Numbering.{AreLanesOf}
+use Rattle.rb_graph.proofs.Inserted.{written_over}
+use Rattle.rb_graph.proofs.Entered.{some_map, none_from, places_with_header, sets_with_header, lowest_with_header, rows_with_header}
 use Rattle.rb_graph.proofs.graph.Graph.add_header.Goals as goal
 
 length_of : {xs ys : List StoredRow} → xs ≡ ys → length xs ≡ length ys

@@ -4,10 +4,10 @@ use Rattle.std.proofs.lemmas.List.{length-map}
 use Rattle.rb_valset.specs.Validator.{Member}
 use Rattle.rb_book.specs.Book.{Book}
 use Rattle.rb_book.specs.Intake.{after_record}
-use Rattle.rb_graph_rows.specs.StoredRow.{StoredRow, next_places, first_naming, stored_row_of}
-use Rattle.rb_graph_rows.specs.Numbering.{AreLanesOf}
-use Rattle.rb_graph_rows.proofs.Inserted.{written_over}
-use Rattle.rb_graph_rows.proofs.Entered.{headers_stay, sets_stay}
+use Rattle.rb_graph.specs.StoredRow.{StoredRow, next_places, first_naming, stored_row_of}
+use Rattle.rb_graph.specs.Numbering.{AreLanesOf}
+use Rattle.rb_graph.proofs.Inserted.{written_over}
+use Rattle.rb_graph.proofs.Entered.{headers_stay, sets_stay}
 use Rattle.rb_graph.proofs.graph.Graph.add_record.Goals as goal
 
 length_of : {xs ys : List StoredRow} → xs ≡ ys → length xs ≡ length ys

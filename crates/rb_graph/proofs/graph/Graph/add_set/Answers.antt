@@ -7,10 +7,10 @@ use Rattle.rb_valset.specs.ValidatorSet.{set_hash}
 use Rattle.rb_book.specs.Header.{Header}
 use Rattle.rb_book.specs.Book.{Book, set_of, is_before}
 use Rattle.rb_book.specs.Intake.{with_set, after_set}
-use Rattle.rb_graph_rows.specs.StoredRow.{StoredRow, next_places, first_naming, stored_power, stored_row_of}
-use Rattle.rb_graph_rows.specs.Numbering.{AreLanesOf}
-use Rattle.rb_graph_rows.proofs.Inserted.{written_over}
-use Rattle.rb_graph_rows.proofs.Entered.{none_from, set_comes, lowest_with_set}
+use Rattle.rb_graph.specs.StoredRow.{StoredRow, next_places, first_naming, stored_power, stored_row_of}
+use Rattle.rb_graph.specs.Numbering.{AreLanesOf}
+use Rattle.rb_graph.proofs.Inserted.{written_over}
+use Rattle.rb_graph.proofs.Entered.{none_from, set_comes, lowest_with_set}
 use Rattle.rb_graph.proofs.graph.Graph.add_set.Goals as goal
 
 length_of : {xs ys : List StoredRow} → xs ≡ ys → length xs ≡ length ys

@@ -1,6 +1,6 @@
 use Rattle.std.proofs.Common.{rules}
 use Rattle.std.proofs.lemmas.Result.{err_from_is_err_and}
-use Rattle.rb_graph_rows.proofs.Entered.{record_refused}
+use Rattle.rb_graph.proofs.Entered.{record_refused}
 use Rattle.rb_graph.proofs.shared.SharedGraph.add_record.Goals as goal
 
 pub returns-in_err-judge_record-clause-refused : goal.returns-in_err-judge_record-clause-refused

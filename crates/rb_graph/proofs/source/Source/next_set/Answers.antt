@@ -1,7 +1,7 @@
 use Rattle.std.proofs.Common.{◌≡◌, ◌∙◌, sym, get_or, Some, None}
 use Rattle.std.specs.List.{slice_get}
 use Rattle.std.proofs.lemmas.Option.{slice_get-get_or}
-use Rattle.rb_graph_rows.specs.StoredRow.{next_place}
+use Rattle.rb_graph.specs.StoredRow.{next_place}
 use Rattle.rb_graph.specs.Source.{lower_records}
 use Rattle.rb_graph.proofs.CellOf.{next_set-known, next_set-unknown}
 use Rattle.rb_graph.proofs.Sources.{no_record}

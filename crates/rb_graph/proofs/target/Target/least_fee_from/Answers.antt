@@ -1,7 +1,7 @@
 use Rattle.std.proofs.Common.{◌∙◌, ◌≡◌, ◌≤◌, length, sym, subst, arith, Option}
 use Rattle.std.specs.Option.{IfSome}
 use Rattle.rb_step.specs.Carried.{least_votes}
-use Rattle.rb_graph_rows.specs.StoredRow.{own_set}
+use Rattle.rb_graph.specs.StoredRow.{own_set}
 use Rattle.rb_graph.proofs.Targets.{least_told_of, least_taken, least_nothing}
 use Rattle.rb_graph.specs.Source.{Source}
 use Rattle.rb_graph.specs.StepTable.{Target}

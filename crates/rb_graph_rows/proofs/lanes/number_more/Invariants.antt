@@ -1,9 +1,0 @@
-use Rattle.std.proofs.Common.{take}
-use Rattle.rb_graph_rows.specs.Numbering.{AreNumbered, Extends}
-use Rattle.rb_graph_rows.proofs.lanes.number_more.Given as goal
-
-abbrev pub invariant-loop-member : goal.invariant-loop-member
-invariant-loop-member g l = record {
-  extends : Extends l.fn.columns l.columns;
-  numbered : AreNumbered l.columns (take l.member-index l.member-items);
-}
