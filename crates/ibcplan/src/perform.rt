@@ -26,7 +26,7 @@ use ibcplan_cli::{
 use ibcplan_folders::{ImportedText, WantedText, imported, wanted};
 use rb_base::{Counted, Gate, Sink, write_whole};
 use rb_follow::{Form as AnswerForm, NoJournal, greeting, json_of_fault};
-use rb_hermes::NamedClient;
+use rb_import_setup::NamedClient;
 use rb_script_toml::RunError;
 use rb_script_types::{Script, Version};
 use rb_text::{certify_script, write_report_of};

@@ -8,7 +8,7 @@ use crate::input::Input;
 use crate::input_error::{InputError, input_error_of};
 use crate::shown::{Shown, shown_text};
 use crate::status;
-use rb_hermes::NamedClient;
+use rb_import_setup::NamedClient;
 use rb_script_toml::{Fault, RunError};
 use std::alloc::Global;
 use std::{fmt, io};

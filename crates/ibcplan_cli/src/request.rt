@@ -13,7 +13,7 @@ use crate::setup_request::{HERMES, SETUP_COMMAND, clients_of, setup_command};
 use crate::worker_count::WorkerCount;
 use clap::error::ErrorKind;
 use clap::{Arg, ArgAction, ArgMatches, Command, Error, value_parser};
-use rb_hermes::NamedClient;
+use rb_import_setup::NamedClient;
 use rb_script_types::MAX_TURNS;
 use std::alloc::{AllocError, Global};
 

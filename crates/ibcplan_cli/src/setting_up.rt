@@ -1,7 +1,7 @@
 //! Setups of the configuration of another relayer.
 use crate::error::ProgramError;
 use crate::input::Input;
-use rb_hermes::{HermesError, NamedClient, setup_of};
+use rb_import_setup::{HermesError, NamedClient, setup_of};
 use std::alloc::Global;
 
 const UNKNOWN: &str = "the configuration lacks one of its chains";

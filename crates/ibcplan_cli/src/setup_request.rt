@@ -1,7 +1,7 @@
 //! The command line of `setup`.
 use clap::error::ErrorKind;
 use clap::{Arg, ArgAction, ArgMatches, Command, Error};
-use rb_hermes::NamedClient;
+use rb_import_setup::NamedClient;
 use std::alloc::{AllocError, Global};
 
 pub(crate) const SETUP_COMMAND: &str = "setup";

@@ -1,3 +1,0 @@
-pub mod FeesLemmas
-pub mod SetupsLemmas
-pub mod WordsLemmas

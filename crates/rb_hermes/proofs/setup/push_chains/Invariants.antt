@@ -1,9 +1,0 @@
-use Rattle.std.proofs.Common.{◌≡◌, ◌++◌, take, map, string_bytes}
-use Rattle.std.specs.List.{flat_map}
-use Rattle.rb_hermes.specs.Chains.{chain_view}
-use Rattle.rb_hermes.specs.Setups.{chain_table, needed}
-use Rattle.rb_hermes.proofs.setup.push_chains.Given as goal
-
--- those of the chains so far
-abbrev pub invariant-loop-chain : goal.invariant-loop-chain
-invariant-loop-chain l = string_bytes l.text ≡ string_bytes l.fn.text ++ flat_map chain_table (needed l.clients (map chain_view (take l.chain-index l.chains)))

@@ -1,6 +1,0 @@
-pub mod Chains
-pub mod Configs
-pub mod Clients
-pub mod Fees
-pub mod Setups
-pub mod Refusals
