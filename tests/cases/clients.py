@@ -58,11 +58,11 @@ def example_runs(program: str, made: pathlib.Path) -> tuple[int, int]:
 
 
 def library_runs(program: str, made: pathlib.Path) -> tuple[int, int]:
-    """The library in C, made of the object file that IBCPLAN_OBJECT names, if it names one; Python calls it."""
-    parts, library = os.environ.get("IBCPLAN_OBJECT"), made / "c"
-    if not parts:
+    """The library in C, made of the object file that a build leaves beside the program, where there is one and a C compiler; Python calls it."""
+    parts, library = f"{program}.o", made / "c"
+    if not os.path.isfile(parts) or shutil.which("gcc") is None:
         return 0, 0
-    status, output = ran([str(CLIENTS / "c" / "build"), os.path.abspath(parts), str(library)], TOP, made, program)
+    status, output = ran([str(CLIENTS / "c" / "build"), parts, str(library)], TOP, made, program)
     if status == 0:
         status, output = ran(["python3", "-B", str(CLIENTS / "c" / "try.py"), str(library / "libibcplan.so.1")], TOP, made, program)
     return 1, shown(f"the library in C: {status}", output) if status else 0
