@@ -77,10 +77,8 @@ fn push_member(text: &mut String, member: &Validator) -> Result<(), AllocError> 
 
 /// Adds bytes as hexadecimal digits.
 fn push_hex(text: &mut String, bytes: &[u8]) -> Result<(), AllocError> {
-    for byte in bytes {
-        write!(text, "{byte:02x}")?;
-    }
-    Ok(())
+    let digits = hex::encode(*text.allocator(), bytes)?;
+    text.push_str(digits.as_str())
 }
 
 /// Adds an event that isn't a set.
