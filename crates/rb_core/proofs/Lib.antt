@@ -6,3 +6,4 @@ pub mod Unjudged
 pub mod Rooms
 pub mod Anew
 pub mod Restoring
+pub mod Apart

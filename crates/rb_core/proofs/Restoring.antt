@@ -1,5 +1,5 @@
 -- A core begins with what is known, where that fits.
-use Rattle.std.proofs.Common.{◌≡◌, ◌↔◌, ℕ, ◌+◌, ◌<◌, ◌≤◌, ◌==◌, nat_le, Bool, true, false, if◌then◌else◌, List, [], length, take, get_or, All, Option, Some, None, IfSome, IsSomeAnd, IsTrue, replicate, sym, ap, subst, refl, inl, inr, arith}
+use Rattle.std.proofs.Common.{◌≡◌, ◌↔◌, ℕ, ◌+◌, ◌<◌, ◌≤◌, ◌==◌, nat_le, Bool, true, false, not, if◌then◌else◌, List, [], length, take, get_or, All, Option, Some, None, IfSome, IsSomeAnd, IsTrue, replicate, sym, ap, subst, refl, inl, inr, arith}
 use Rattle.std.specs.List.{list_all, slice_get}
 use Rattle.std.proofs.lemmas.Bool.{cases_lt, eq-eqb, ne_eqb, true≢false, false≢true}
 use Rattle.std.proofs.lemmas.List.{take_more}
@@ -28,6 +28,10 @@ stands config s is = λ i. record {
   scans = replicate (length config.paths) no_scans;
   front = 0;
 }
+
+-- what holds of what was found
+pub found : {X : Type 0} (o : Option X) (x : X) (P : X → Type 0) → o ≡ Some x → IfSome o P → P x
+found o x P is holds = subst (λ p. IfSome p P) is holds
 
 -- a relayer may begin with what fits
 pub fitting_begun : (config : Config) (start : Snapshot) (s : State) (hs : List ClientWithRoom) → s ≡ begun config start → snapshot_of s.standing ≡ start → clients_of hs ≡ s.standing.clients
@@ -82,10 +86,10 @@ outcomes_for p client other = go (p.forward == client) (ne_eqb p.forward client 
     go false e true = (λ _. refl, λ _. refl)
     go false e false = (λ h. absurd (false≢true h), λ h. absurd (cc))
 
-pub no_outcomes_for : (p : PathConfig) (client : ℕ) → p.forward ≡ client → IsTrue false ↔ (part_for p client ≡ Some Channel)
+pub no_outcomes_for : (p : PathConfig) (client : ℕ) → p.forward ≡ client → IsTrue (not (p.forward == client)) ↔ (part_for p client ≡ Some Channel)
 no_outcomes_for p client same = go (p.forward == client) (eq-eqb p.forward client same) (p.back == client)
   where
-    go : (a : Bool) → a ≡ true → (b : Bool) → IsTrue false ↔ ((if a then Some Packets else (if b then Some Channel else None)) ≡ Some Channel)
+    go : (a : Bool) → a ≡ true → (b : Bool) → IsTrue (not a) ↔ ((if a then Some Packets else (if b then Some Channel else None)) ≡ Some Channel)
     go true e b = (λ h. absurd (false≢true h), λ h. absurd (cc))
     go false e b = absurd (false≢true e)
 

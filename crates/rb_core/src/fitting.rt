@@ -1,15 +1,15 @@
 //! Whether what is known fits: what every list of events leaves, beside what the types of its parts keep.
-ghost use Rattle.std.specs.Prelude.{◌≡◌, ◌↔◌, ◌≤◌, ◌==◌, ◌&&◌, ℕ, All, AllPairs, IfSome, IsSome, IsTrue, Some, slice_get};
+ghost use Rattle.std.specs.Prelude.{◌≡◌, ◌↔◌, ◌≤◌, ℕ, All, AllPairs, IfSome, IsSome, IsTrue, Some, slice_get};
 ghost use Rattle.std.specs.Option.{option_copied};
 ghost use Rattle.rb_base.specs.Window.{Span};
 ghost use Rattle.rb_book.specs.Book.{record_at};
 ghost use Rattle.rb_book.specs.Invariant.{IsBook};
 ghost use Rattle.rb_book.specs.Shared.{Shared};
+ghost use Rattle.rb_core.specs.Order.{comes_before, kind_place};
 ghost use Rattle.rb_core.specs.State.{standing_view};
 ghost use Rattle.rb_core_model.specs.Config.{part_for};
 ghost use Rattle.rb_core_model.specs.Fits.{AreApart, Fits, FitsBatch, FitsClient, FitsMessage, FitsPath, IsOpenOn, part_of};
 ghost use Rattle.rb_core_state.specs.Room.{PathWithRoom};
-ghost use Rattle.rb_scan.specs.Owed.{same_kind};
 ghost use Rattle.rb_step.specs.LightClient.{Update as UpdateTo};
 
 use crate::path_views::find_path;
@@ -61,44 +61,37 @@ fn are_recorded<A: Allocator + Copy>(book: &ChainBook<A>, updates: &[Update]) ->
         .all(|update| book.record(update.height()).is_some())
 }
 
-fn are_alike(kind: Kind, other: Kind) -> bool
-    ensures { result ≡ same_kind kind other }
+/// The place of a kind in the order of messages.
+fn place_of(kind: Kind) -> u8
+    ensures { result ≡ kind_place kind }
 {
-    kind == other
+    match kind {
+        Kind::Receive => 0,
+        Kind::Acknowledge => 1,
+        Kind::Timeout => 2,
+    }
 }
 
-fn is_same(message: &Message, other: &Message) -> bool
-    ensures { let m = message.now in let n = other.now
-        in result ≡ ((m.path == n.path) && same_kind m.packet.kind n.packet.kind && (m.packet.sequence == n.packet.sequence)) }
+/// Whether a message comes before another, by path, kind and sequence.
+fn is_before(message: &Message, other: &Message) -> bool
+    ensures { result ≡ comes_before message.now other.now }
 {
     let (packet, its) = (message.packet(), other.packet());
-    message.path() == other.path()
-        && are_alike(packet.kind, its.kind)
-        && packet.sequence == its.sequence
+    let (place, its_place) = (place_of(packet.kind), place_of(its.kind));
+    message.path() < other.path()
+        || (message.path() == other.path()
+            && (place < its_place || (place == its_place && packet.sequence < its.sequence)))
 }
 
-fn is_apart(message: &Message, other: &Message) -> bool
-    ensures { IsTrue result ↔ AreApart message.now other.now }
-{
-    !is_same(message, other)
-}
-
-fn is_apart_from_all(message: &Message, before: &[Message]) -> bool
-    ensures { IsTrue result ↔ All (λ other. AreApart other message.now) before.now }
-{
-    before.iter().all(|other| is_apart(other, message))
-}
-
-/// Whether no message stands twice.
-fn are_apart(messages: &[Message]) -> bool
+/// Whether the messages rise, so that none stands twice.
+fn are_rising(messages: &[Message]) -> bool
     ensures { IsTrue result → AllPairs AreApart messages.now }
 {
-    for (place, message) in messages.iter().enumerate() {
-        if !is_apart_from_all(message, &messages[..place]) {
-            return false;
-        }
-    }
-    true
+    messages.is_sorted_by(
+        |message: &Message, next: &Message| -> bool
+            ensures { result ≡ comes_before message.now next.now }
+        { is_before(message, next) },
+    )
 }
 
 /// Whether the receives of a path are for the client.
@@ -154,7 +147,7 @@ fn fit_messages<A: Allocator + Copy>(
         .all(|message| fits_message(state, client, message))
 }
 
-/// Whether each update's height has a record, no message stands twice, and each is one for the client.
+/// Whether each update's height has a record, the messages rise, and each is one for the client.
 fn fits_batch<A: Allocator + Copy>(
     state: &CoreState<A>,
     client: usize,
@@ -166,7 +159,7 @@ fn fits_batch<A: Allocator + Copy>(
     if !are_recorded(book, batch.updates()) {
         return false;
     }
-    if !are_apart(batch.messages()) {
+    if !are_rising(batch.messages()) {
         return false;
     }
     fit_messages(state, client, batch.messages())

@@ -94,9 +94,9 @@ impl<A: Allocator + Copy> Core<A> {
 
     /// A core that begins with what a snapshot tells. None where it doesn't fit: it hasn't as many books,
     /// clients and paths as the configuration, stored heights of a client or the heights of its open batch's
-    /// updates have no record, sequences of a path don't rise, a message stands twice in an open batch, isn't
-    /// for its client, or was settled. `AllocError` where memory is refused, or something has as many owners
-    /// as can be counted; the configuration is given up then.
+    /// updates have no record, sequences of a path don't rise, messages of an open batch don't rise by path,
+    /// kind and sequence, or one isn't for its client, or was settled. `AllocError` where memory is refused, or
+    /// something has as many owners as can be counted; the configuration is given up then.
     pub fn restored(
         alloc: A,
         config: Config<A>,

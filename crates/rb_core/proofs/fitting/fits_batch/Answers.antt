@@ -8,6 +8,6 @@ use Rattle.rb_core.proofs.fitting.fits_batch.Goals as goal
 pub returns : goal.returns
 returns g c h = record {
   updates = subst (All (λ (u : Update). IsSome (record_at c.args.book.now u.height))) c.updates.ensures (c.are_recorded.ensures.0 c.if-not-are_recorded.false);
-  apart = subst (AllPairs AreApart) c.messages.ensures (c.are_apart.ensures c.if-not-are_apart.false);
+  apart = subst (AllPairs AreApart) c.messages.ensures (c.are_rising.ensures c.if-not-are_rising.false);
   messages = subst (All (FitsMessage (standing_view c.args.state.now).paths c.args.client)) c.messages-2.ensures (c.fit_messages.ensures.0 h);
 }

@@ -1,4 +1,4 @@
-use Rattle.std.proofs.Common.{List, All, subst}
+use Rattle.std.proofs.Common.{All, subst}
 use Rattle.std.proofs.lemmas.List.Elements.{All-map}
 use Rattle.rb_book.specs.Invariant.{IsBook}
 use Rattle.rb_book.specs.Shared.{Shared}

@@ -1,4 +1,4 @@
-use Rattle.std.proofs.Common.{List, map, ap, ◌∙◌}
+use Rattle.std.proofs.Common.{map, ap, ◌∙◌}
 use Rattle.rb_core_model.specs.Snapshot.{snapshot_of_client, snapshot_of_path}
 use Rattle.rb_core_state.specs.Room.{books_of, clients_of, paths_of}
 use Rattle.rb_core.proofs.snapshot.known_in.Goals as goal

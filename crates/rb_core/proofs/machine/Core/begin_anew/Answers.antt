@@ -24,6 +24,10 @@ begun_in-requires g c =
     begins_anew (config_view inside.config) (log_from (config_view inside.config) (start_of (option_map arc_value inside.begun)) inside.log.items) (state_view inside.state) (state_view c.in_ok-state.state)
     c.self.invariant c.in_ok-state.ensures.state c.in_ok-state.ensures.few
 
+pub returns-clause-config : goal.returns-clause-config
+returns-clause-config g c =
+    subst (λ (config : Config). IfOk c.begun_in.result (λ (core : Core). core.config ≡ config)) (ap (λ (core : Core). core.config) c.self.view_is) c.begun_in.ensures.config
+
 pub returns-clause-log : goal.returns-clause-log
 returns-clause-log g c =
     let left : standing_view c.in_ok-state.state ≡ rest_at_floors (state_in c.args.self).standing =
