@@ -6,7 +6,7 @@ import subprocess
 import sys
 import threading
 
-from lib.following import MARK, answers_of, check, ended, followed, run_in_pieces
+from lib.following import MARK, answers_of, check, ended, followed, run_in_pieces, turns_before
 from lib.json_reading import read_json
 from lib.program import TOP
 
@@ -489,16 +489,16 @@ def front_runs(program, folder):
 
 def journal_runs(program, folder):
     """A journal with more packets than a path holds, or more sets than a light store: `follow` goes on from it, by another number of workers, too, and
-    behind a kill; it forgets what it forgot before."""
+    behind a kill; it forgets what it forgot before. Where it was begun anew it answers the turns since then."""
     path, journal, wrong = folder / "setup.toml", folder / "journal.toml", 0
     long_setup = CHAINS % 3 + CLIENT % ("living", "hub", "zone", 15 * 250)
     for what, setup, turns, late in (
         ("packets", packet_setup(3, "unordered"), list(packet_turns(3, "unordered")), next(late_packets())),
         ("sets", long_setup, list(long_turns(7, 250, True)), (turn_at(7 * 250, [long_header(2, True)]), 0)),
     ):
-        wanted = told(program, path, setup, turns).output.removesuffix("end\n")
-        half, answered = len(turns) * 2 // 3, wanted.split(MARK)
-        begun = MARK.join([*answered[:half], ""])
+        head, answers, end = answers_of(told(program, path, setup, turns).output.replace(MARK, ""))
+        half = len(turns) * 2 // 3
+        begun = head + "".join(answers[:half])
         journal.unlink(missing_ok=True)
         run = subprocess.Popen([*program, "follow", str(path), "--journal", str(journal)], stdin=subprocess.PIPE, stdout=subprocess.PIPE, text=True)
         feeder = threading.Thread(target=lambda: (run.stdin.write("".join(turn + MARK for turn in turns[:half])), run.stdin.flush()))
@@ -510,13 +510,15 @@ def journal_runs(program, folder):
         wrong += check(f"{what}: answers before a kill", got, begun)
         again = [*program, "follow", "--journal", str(journal), "--workers", "2"]
         given = ended([document.encode() for document in (*turns[half:], late[0])])
+        first = turns_before(journal)
         done = run_in_pieces(again, given, 4096)
-        wrong += check_told(f"{what}: gone on from a journal", done, f"{wanted}{FORGOTTEN % late[1]}end\n")
-        stored, plan = journal.read_bytes(), run_in_pieces([*program, "plan", "-"], script_of(setup, turns), 4096).output
+        wrong += check_told(f"{what}: gone on from a journal", done, head + "".join(answers[first:]) + FORGOTTEN % late[1] + end)
+        first, stored = turns_before(journal), journal.read_bytes()
         done = run_in_pieces(again[:-2], ended([late[0].encode()]), 4096)
-        wrong += check_told(f"{what}: once more", done, f"{wanted}{FORGOTTEN % late[1]}end\n")
+        wrong += check_told(f"{what}: once more", done, head + "".join(answers[first:]) + FORGOTTEN % late[1] + end)
+        plan = run_in_pieces([*program, "plan", "-"], script_of(setup, turns), 4096).output
         done = run_in_pieces([*program, "plan", str(journal)], b"", 4096)
-        wrong += check(f"{what}: the plan of a journal", (done.output, journal.read_bytes(), "406 Full" in plan), (plan, stored, True))
+        wrong += check(f"{what}: the plan of a journal", (done.output, journal.read_bytes(), "406 Full" in plan), ("" if first else plan, stored, True))
     return 8, wrong
 
 

@@ -6,10 +6,9 @@ import shutil
 import subprocess
 
 from cases.forgets import CHAINS, CLIENT, FIRST, PATH, a_set, header, stored, time_of, told_packets, turn_at
-from lib.following import MARK, PATIENCE, answers_of, check, ended, run_in_pieces
+from lib.following import ANEW, MARK, PATIENCE, answers_of, check, ended, run_in_pieces, turns_before
 
 END = b"# ---\n"
-ANEW = b"# ibcplan journal 3\n"
 TURNS = 140
 MOST = 480_000  # bytes of a journal that is begun anew when it has to be; one that isn't has more
 
@@ -58,11 +57,6 @@ class Busy:
         """Tells some turns, and all that is written then."""
         return run_in_pieces(self.command(), ended(self.documents[first:last]), 4096)
 
-    def begun(self):
-        """How many turns led to the state of the journal: the first word of it."""
-        journal = self.journal.read_bytes() if self.journal.exists() else b""
-        return int(journal.split(b"'''", 1)[1].split(None, 1)[0]) if journal.startswith(ANEW) else 0
-
     def wanted(self, first, last):
         return self.head + "".join(self.answers[first:last]) + self.end
 
@@ -86,7 +80,7 @@ def whole_runs(program, folder):
         busy.forget()
         begun, taken, held = set(), 0, 0
         while taken < TURNS:
-            more, first = min(5 + taken % 7, TURNS - taken), busy.begun()
+            more, first = min(5 + taken % 7, TURNS - taken), turns_before(busy.journal)
             done = busy.told(taken, taken + more)
             wrong += check(f"{what}: {taken} turns, and {more} more", (done.output, done.error, done.status), (busy.wanted(first, taken + more), "", 0))
             begun.add(first)
@@ -129,9 +123,9 @@ def kill_runs(program, folder):
             if got.status == 0 and "not begun anew" not in got.error:
                 break
             what, answered = f"{call} {number} {how}", got.output.count(MARK)
-            wrong += check(what, busy.wanted(busy.begun(), taken + 2).startswith(got.output.removesuffix(busy.end)) or busy.wanted(0, taken + 2).startswith(got.output.removesuffix(busy.end)), True)
+            wrong += check(what, busy.wanted(turns_before(busy.journal), taken + 2).startswith(got.output.removesuffix(busy.end)) or busy.wanted(0, taken + 2).startswith(got.output.removesuffix(busy.end)), True)
             wrong += check(f"{what}: the file", before in busy.journal.read_bytes() or busy.journal.read_bytes().startswith(ANEW), True)
-            again, first = run_in_pieces(busy.command(), b"", 4096), busy.begun()
+            again, first = run_in_pieces(busy.command(), b"", 4096), turns_before(busy.journal)
             stored = first + again.output.count(MARK)
             wrong += check(f"{what}: again", (again.output, again.status, max(taken, answered) <= stored <= taken + 2), (busy.wanted(first, stored), 0, True))
             done = busy.told(stored, stored + 9)

@@ -11,6 +11,7 @@ import tomllib
 from lib.program import EXAMPLES, ROWS
 
 MARK = "---\n"
+ANEW = b"# ibcplan journal 3\n"  # of a journal that was begun anew
 PATIENCE = 120  # seconds
 
 
@@ -54,6 +55,12 @@ def answers_of(report):
             turns.append("")
         turns[-1] += line
     return head, [turn + MARK for turn in turns], end
+
+
+def turns_before(journal):
+    """How many turns led to the state of a journal, the first word of it; 0 where it has none."""
+    text = journal.read_bytes() if journal.exists() else b""
+    return int(text.split(b"'''", 1)[1].split(None, 1)[0]) if text.startswith(ANEW) else 0
 
 
 def followed(report):

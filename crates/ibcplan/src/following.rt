@@ -2,7 +2,7 @@
 ghost use Rattle.std.specs.Prelude.{◌≡◌, ◌⊎◌, false, None, Err, IfErr, IsSome, IsErr, OnOk, OnErr, IfSome, MatchResult};
 ghost use Rattle.rb_follow.specs.Setups.{setup_of};
 ghost use Rattle.rb_follow.specs.Journals.{outs};
-ghost use Rattle.rb_follow.specs.Headline.{Follows, BeginsFollowing, GoesOn};
+ghost use Rattle.rb_follow.specs.Headline.{Follows, BeginsFollowing, GoesOn, BeginsGoingOn};
 ghost use Rattle.ibcplan_cli.specs.Failures.{failure_status, told_fault, is_unwritten};
 
 use crate::host::Host;
@@ -114,6 +114,7 @@ pub fn follow_from<
 ) -> Result<(), ProgramError<'a>>
     requires { W.is_broken output.old ≡ false }
     ensures followed { OnOk result (IfSome (I.remaining input.old) (λ bytes. (state ≡ None → Follows form setup.now bytes (outs (W.taken output.old) (J.documents journal.old)) (outs (W.taken output.new) (J.documents journal.new))) × (IsSome state → GoesOn form setup.now bytes (outs (W.taken output.old) (J.documents journal.old)) (outs (W.taken output.new) (J.documents journal.new))))) }
+    ensures begun { OnErr result (((output.new ≡ output.old) × (J.documents journal.new ≡ J.documents journal.old)) ⊎ IfSome (I.remaining input.old) (λ bytes. (state ≡ None → BeginsFollowing form setup.now bytes (outs (W.taken output.old) (J.documents journal.old)) (outs (W.taken output.new) (J.documents journal.new))) × (IsSome state → BeginsGoingOn form setup.now bytes (outs (W.taken output.old) (J.documents journal.old)) (outs (W.taken output.new) (J.documents journal.new))))) }
 {
     let Some(state) = state else {
         return follow(

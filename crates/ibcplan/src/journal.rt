@@ -11,8 +11,8 @@ use rb_journal::{
     stored_in,
 };
 use rb_script_toml::RunError;
-use std::alloc::Global;
-use std::fs::{File, OpenFile, OpenOptions, TryLockError, rename};
+use std::alloc::{AllocError, Global};
+use std::fs::{File, Files, OpenFile, OpenOptions, TryLockError, rename};
 use std::io::{Read, Seek, SeekFrom, Write};
 use std::vec::IntoIter;
 use std::{io, mem};
@@ -67,9 +67,9 @@ impl<F: Write + OpenFile> FileJournal<F> {
 
 /// The same, which is begun anew where it is long.
 #[derive(Drop)]
-pub struct LongJournal<'a, R> {
+pub struct LongJournal<R> {
     rt: R,
-    path: &'a str,
+    path: String,
     opening: Vec<u8>,
     stored: FileJournal<File>,
     /// From which length on it is begun anew, if there is a state.
@@ -88,10 +88,10 @@ struct Beginning {
     length: u64,
 }
 
-impl<R: Host> LongJournal<'_, R> {
+impl<R: Files<File = File> + Eprint> LongJournal<R> {
     /// What it can begin with anew, if it is then half as long at most.
     fn beginning(&mut self, state: &str, batches: Vec<u64>) -> io::Result<Option<Beginning>> {
-        let Ok(part) = state_part(self.rt.alloc(), state) else {
+        let Ok(part) = state_part(self.stored.alloc, state) else {
             return Err(io::Error::from(io::ErrorKind::OutOfMemory));
         };
         let length = self.stored.file.metadata()?.len();
@@ -108,7 +108,7 @@ impl<R: Host> LongJournal<'_, R> {
 
     /// Writes a file that takes the place of this one: a state, the setup, and the turns after the state.
     fn put(&mut self, next: &Beginning) -> io::Result<File> {
-        let Ok(name) = format!(in self.rt.alloc(); "{}.new", self.path) else {
+        let Ok(name) = format!(in self.stored.alloc; "{}.new", self.path) else {
             return Err(io::Error::from(io::ErrorKind::OutOfMemory));
         };
         let mut options = OpenOptions::new();
@@ -118,30 +118,32 @@ impl<R: Host> LongJournal<'_, R> {
             return Err(io::Error::new(io::ErrorKind::Other, "another process has it"));
         }
         self.stored.file.seek(SeekFrom::Start(next.length))?;
-        let turns = content(self.rt.alloc(), &mut self.stored.file)?;
+        let turns = content(self.stored.alloc, &mut self.stored.file)?;
         file.set_len(0)?;
         file.write_all(next.part.as_bytes())?;
         file.write_all(self.opening.as_slice())?;
         file.write_all(turns.as_slice())?;
         file.sync_all()?;
-        rename(&self.rt, name.as_str(), self.path)?;
+        rename(&self.rt, name.as_str(), self.path.as_str())?;
         Ok(file)
     }
 
     /// Goes on with the file that took the place of the one before.
     fn go_on(&mut self, file: File) -> io::Result<()> {
         self.before = Some(mem::replace(&mut self.stored.file, file));
-        File::open(&self.rt, folder_of(self.path))?.sync_all()
+        File::open(&self.rt, folder_of(self.path.as_str()))?.sync_all()
     }
 
     /// Tells why it isn't begun anew.
     fn tell(&self, error: &io::Error) {
-        let shown = Shown { name: self.path };
+        let shown = Shown {
+            name: self.path.as_str(),
+        };
         let _ = eprintln!(&self.rt; "{shown}: not begun anew: {error}");
     }
 }
 
-impl<R: Host> Journal for LongJournal<'_, R> {
+impl<R: Files<File = File> + Eprint> Journal for LongJournal<R> {
     ghost use Rattle.std.specs.Prelude.{None};
 
     ghost documents = { λ _. None };
@@ -214,7 +216,7 @@ fn without_number(document: &[u8]) -> &[u8] {
 /// the documents that it has, as an input.
 #[derive(Drop)]
 pub struct OpenedJournal<'a, R> {
-    pub journal: LongJournal<'a, R>,
+    pub journal: LongJournal<R>,
     pub state: Option<String>,
     pub setup: Input<'a>,
     pub past: Vec<u8>,
@@ -442,40 +444,52 @@ fn settled<'a, R: Host>(
     opening: &[u8],
     documents: Vec<Vec<u8>>,
 ) -> Result<OpenedJournal<'a, R>, ProgramError<'a>> {
-    let alloc = rt.alloc();
     if let Err(error) = settle(rt, path, &file) {
         return Err(failed(path, error, UNWRITTEN));
     }
+    match going_on(rt, path, file, digests, state, opening, documents) {
+        Ok(opened) => Ok(opened),
+        Err(_) => Err(ProgramError::NoMemory),
+    }
+}
+
+/// The same, which the disk has.
+fn going_on<'a, R: Host>(
+    rt: &R,
+    path: &'a str,
+    file: File,
+    digests: bool,
+    state: Option<String>,
+    opening: &[u8],
+    documents: Vec<Vec<u8>>,
+) -> Result<OpenedJournal<'a, R>, AllocError> {
+    let alloc = rt.alloc();
     let length = match &state {
         Some(state) => state.len(),
         None => 0,
     };
-    match (
-        Vec::from_slice(alloc, opening),
-        Vec::from_slice(alloc, opening),
-        input_of(alloc, documents.as_slice()),
-    ) {
-        (Ok(setup), Ok(begun), Ok(past)) => Ok(OpenedJournal {
-            journal: LongJournal {
-                rt: *rt,
-                path,
-                opening: begun,
-                stored: FileJournal {
-                    alloc,
-                    file,
-                    digests,
-                    past: documents.into_iter(),
-                },
-                long: twice(length, opening.len()),
-                next: None,
-                before: None,
-            },
-            state,
-            setup: Input::beginning(path, setup),
-            past,
-        }),
-        _ => Err(ProgramError::NoMemory),
-    }
+    let setup = Input::beginning(path, Vec::from_slice(alloc, opening)?);
+    let past = input_of(alloc, documents.as_slice())?;
+    let journal = LongJournal {
+        rt: *rt,
+        path: String::from_str(alloc, path)?,
+        opening: Vec::from_slice(alloc, opening)?,
+        stored: FileJournal {
+            alloc,
+            file,
+            digests,
+            past: documents.into_iter(),
+        },
+        long: twice(length, opening.len()),
+        next: None,
+        before: None,
+    };
+    Ok(OpenedJournal {
+        journal,
+        state,
+        setup,
+        past,
+    })
 }
 
 fn failed<'a>(path: &'a str, error: io::Error, advice: &'static str) -> ProgramError<'a> {

@@ -42,8 +42,9 @@ From version 3 on heights and packets that no plan needs are forgotten, and an e
 of one is a fault (1033): leave it out.
 
 With --journal each turn is on the disk before it is answered. The file is a script
-that plan reads. Where it has turns their answers come first, and then those to new
-ones; its setup is then taken, and SETUP needn't be given.
+that plan reads, until it is long: then it is begun anew, with what follow knows.
+Where it has turns their answers come first, and then those to new ones; its setup
+is then taken, and SETUP needn't be given.
 
 Standard error says more of documents that are no TOML. Whoever pipes it has to read
 it, or give --quiet: a full pipe stops the process.";

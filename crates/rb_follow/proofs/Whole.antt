@@ -18,7 +18,7 @@ use Rattle.rb_follow.specs.Documents.{Document, documents}
 use Rattle.rb_follow.specs.Followers.{Following, begun_with, beginning}
 use Rattle.rb_follow.specs.Answers.{head_text, end_text}
 use Rattle.rb_follow.specs.Journals.{outs}
-use Rattle.rb_follow.specs.Headline.{Answered, answers_text, Told, BeginsTelling, IsFollowed, Follows, BeginsFollowing, GoesOn}
+use Rattle.rb_follow.specs.Headline.{Answered, answers_text, Told, BeginsTelling, IsFollowed, Follows, BeginsFollowing, GoesOn, BeginsGoingOn}
 use Rattle.rb_follow.proofs.LawsLemmas.{answers_reports}
 use Rattle.rb_follow.proofs.Telling.{stores_none, answered-none}
 use Rattle.rb_text_report.proofs.Beginnings.{appends-then, beginning-first, beginning-then}
@@ -168,4 +168,59 @@ goes-on form setup f (Some bytes) old mid last new before after g read h t e = r
   stored = t.stored;
   written = appends-then old mid new (head_text form f.config.version) (answers_text form f.config t.all.answers ++ end_text form) h
       (appends-then mid last new (answers_text form f.config t.all.answers) (end_text form) t.written e);
+}
+
+-- the first line failed
+pub on-head : (form : Form) (setup : List ℕ) (f : Following) (known : Option (List ℕ)) (old new : Option (List ℕ)) (before : Option (List (List ℕ)))
+    → setup_of setup ≡ Ok f.config → AppendsBeginning old new (head_text form f.config.version)
+    → IfSome known (λ (bytes : List ℕ). BeginsGoingOn form setup bytes (outs old before) (outs new before))
+on-head form setup f None old new before read h = tt
+on-head form setup f (Some bytes) old new before read h = record {
+  start = f;
+  read = read;
+  first = [];
+  later = documents bytes;
+  are_first = refl;
+  last = f;
+  all = answered-none f;
+  stored = stores_none before;
+  begun = beginning-first old new (head_text form f.config.version) (answers_text form f.config [] ++ end_text form) h;
+}
+
+-- an answer failed, or the input
+pub on-begins : (form : Form) (setup : List ℕ) (f : Following) (known : Option (List ℕ)) (old mid new : Option (List ℕ)) (before after : Option (List (List ℕ)))
+    → setup_of setup ≡ Ok f.config → Appends old mid (head_text form f.config.version)
+    → IfSome known (λ (bytes : List ℕ). BeginsTelling form f (documents bytes) (outs mid before) (outs new after))
+    → IfSome known (λ (bytes : List ℕ). BeginsGoingOn form setup bytes (outs old before) (outs new after))
+on-begins form setup f None old mid new before after read h t = tt
+on-begins form setup f (Some bytes) old mid new before after read h t = record {
+  start = f;
+  read = read;
+  first = t.first;
+  later = t.later;
+  are_first = t.are_first;
+  last = t.last;
+  all = t.all;
+  stored = t.stored;
+  begun = beginning-then old mid new (head_text form f.config.version) (answers_text form f.config t.all.answers ++ end_text form) h
+      (beginning-first mid new (answers_text form f.config t.all.answers) (end_text form) t.begun);
+}
+
+-- the last line failed
+pub on-end : (form : Form) (setup : List ℕ) (f : Following) (known : Option (List ℕ)) (old mid last new : Option (List ℕ)) (before after : Option (List (List ℕ))) (g : Following)
+    → setup_of setup ≡ Ok f.config → Appends old mid (head_text form f.config.version)
+    → IfSome known (λ (bytes : List ℕ). Told form f (documents bytes) (outs mid before) (outs last after) g) → AppendsBeginning last new (end_text form)
+    → IfSome known (λ (bytes : List ℕ). BeginsGoingOn form setup bytes (outs old before) (outs new after))
+on-end form setup f None old mid last new before after g read h t e = tt
+on-end form setup f (Some bytes) old mid last new before after g read h t e = record {
+  start = f;
+  read = read;
+  first = documents bytes;
+  later = [];
+  are_first = sym (append-nil (documents bytes));
+  last = g;
+  all = t.all;
+  stored = t.stored;
+  begun = beginning-then old mid new (head_text form f.config.version) (answers_text form f.config t.all.answers ++ end_text form) h
+      (beginning-then mid last new (answers_text form f.config t.all.answers) (end_text form) t.written e);
 }

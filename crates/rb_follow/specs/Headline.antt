@@ -128,3 +128,16 @@ pub record GoesOn (form : Form) (setup input : List ℕ) (old new : Outs) : Type
   pub all : Answered start (documents input) last
   pub stored : StoresAll old.stored new.stored (accepted (documents input) all.answers)
   pub written : Appends old.taken new.taken (followed_text form start.config all.answers)
+
+-- The same where it ends before: the writer took a beginning of such answers to the first documents, and the journal has stored those of them
+-- that were accepted.
+pub record BeginsGoingOn (form : Form) (setup input : List ℕ) (old new : Outs) : Type 0 where
+  pub start : Following
+  pub read : setup_of setup ≡ Ok start.config
+  pub first : List Document
+  pub later : List Document
+  pub are_first : documents input ≡ first ++ later
+  pub last : Following
+  pub all : Answered start first last
+  pub stored : StoresAll old.stored new.stored (accepted first all.answers)
+  pub begun : AppendsBeginning old.taken new.taken (followed_text form start.config all.answers)

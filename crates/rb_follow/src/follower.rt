@@ -21,13 +21,12 @@ use crate::answer::{Answer, Refusal};
 use crate::driver::Driver;
 use crate::numbers::{number_text, numbered};
 use crate::setup::{path_ids, read_setup_text};
-use crate::state::{State, read_state, state_text};
 use crate::tidying::{check_spoken, forgets, raise};
 use crate::turns::read_turn_is_turn;
-use crate::words::Unread;
 use rb_base::{ChainId, Gate, PathId};
 use rb_core::MAX_EVENTS;
 use rb_core_model::rules::fee_tables;
+use rb_journal::{State, read_state, state_text};
 use rb_script_config::Setup;
 use rb_script_read::{NextTurn, Reading, ReadingChange, read_turn_document};
 use rb_script_toml::{FaultName, RunError, fault_at};
@@ -225,21 +224,20 @@ impl<G: Gate + Send + Sync + Drop + 'static> Follower<G> {
         gate: &Arc<G, Global>,
     ) -> Result<Option<Follower<G>>, RunError>
         requires workers { workers ≤ 64 }
-        ensures set_up { IfOk result (IfSome (λ f. setup_of setup.now ≡ Ok (following f).config)) }
+        ensures set_up { IfOk result (λ found. IfSome found (λ f. setup_of setup.now ≡ Ok (following f).config)) }
         ensures refused { IfErr result (λ e. Fails e (setup_of setup.now)) }
     {
         let (setup, config) = read_setup_text(alloc, setup)?;
         let paths = path_ids(alloc, config.paths.as_slice())?;
+        let Some(state) = read_state(alloc, config, state)? else {
+            return Ok(None);
+        };
         let State {
             core,
             reading,
             turns,
             forgotten,
-        } = match read_state(alloc, config, state) {
-            Ok(state) => state,
-            Err(Unread::Wrong) => return Ok(None),
-            Err(Unread::NoMemory) => return Err(RunError::NoMemory),
-        };
+        } = state;
         if turns > max_turns(setup.version) {
             return Ok(None);
         }
@@ -270,11 +268,8 @@ impl<G: Gate + Send + Sync + Drop + 'static> Follower<G> {
         let forgotten = self.forgotten.as_slice();
         let text = state_text(self.alloc, &snapshot, &self.reading, self.turns, forgotten)?;
         let config = self.driver.config().copy()?;
-        match read_state(self.alloc, config, text.as_str()) {
-            Ok(_state) => Ok(Some(text)),
-            Err(Unread::Wrong) => Ok(None),
-            Err(Unread::NoMemory) => Err(AllocError),
-        }
+        let found = read_state(self.alloc, config, text.as_str())?;
+        Ok(found.map(|_state| text))
     }
 
     /// The numbers of the open batches, by client; 0 where none is open.

@@ -11,7 +11,7 @@ ghost use Rattle.rb_follow.specs.Documents.{nothing_read, all_read, document, do
 ghost use Rattle.rb_follow.specs.Answers.{answer_view, answer_text, head_text, end_text};
 ghost use Rattle.rb_follow.specs.Journals.{StoresAll, accepted, outs};
 ghost use Rattle.rb_follow.specs.Views.{following};
-ghost use Rattle.rb_follow.specs.Headline.{Told, ToldPiece, BeginsTelling, IsFollowError, Follows, BeginsFollowing, GoesOn};
+ghost use Rattle.rb_follow.specs.Headline.{Told, ToldPiece, BeginsTelling, IsFollowError, Follows, BeginsFollowing, GoesOn, BeginsGoingOn};
 
 use crate::answer::{Answer, Refusal};
 use crate::error::FollowError;
@@ -489,8 +489,7 @@ where
     R: Threads + Wait + Copy + Send + Sync + 'static,
     G: Gate + Send + Sync + Drop + 'static,
     requires { workers ≤ 64 }
-    ensures set_up { IfOk result (λ f. setup_of setup.now ≡ Ok (following f).config) }
-    ensures failed { IfErr result (λ e. IsFollowError e false) }
+    ensures { IfOk result (λ f. setup_of setup.now ≡ Ok (following f).config) }
 {
     match Follower::restored(rt, alloc, setup, state, workers, gate)? {
         Some(follower) => Ok(follower),
@@ -526,6 +525,7 @@ where
     requires works { W.is_broken writer.old ≡ false }
     requires workers { workers ≤ 64 }
     ensures followed { OnOk result (IfSome (I.remaining input.old) (λ bytes. GoesOn form setup.now bytes (outs (W.taken writer.old) (J.documents journal.old)) (outs (W.taken writer.new) (J.documents journal.new)))) }
+    ensures begun { OnErr result (((writer.new ≡ writer.old) × (J.documents journal.new ≡ J.documents journal.old)) ⊎ IfSome (I.remaining input.old) (λ bytes. BeginsGoingOn form setup.now bytes (outs (W.taken writer.old) (J.documents journal.old)) (outs (W.taken writer.new) (J.documents journal.new)))) }
 {
     let crew = Crew::new(rt, workers, &**gate);
     let follower = restored(rt, alloc, setup, state, workers, gate)?;

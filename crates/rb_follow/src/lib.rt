@@ -15,12 +15,9 @@ mod labels;
 pub mod laws;
 mod numbers;
 mod setup;
-mod state;
 mod tidying;
 mod told;
 mod turns;
-mod words;
-mod written;
 
 pub use answer::{Answer, Refusal};
 pub use driver::Driver;

@@ -63,3 +63,7 @@ state_lines state = codes "# ibcplan journal 3\nstate = '''\n" ++ (state ++ code
 
 abbrev pub state_part : List ℕ → List ℕ
 state_part state = state_lines state ++ closing true (state_lines state)
+
+-- a text whose last line has ended
+abbrev pub EndsLine : List ℕ → Type 0
+EndsLine bytes = (before : List ℕ) × (bytes ≡ before ++ codes "\n")

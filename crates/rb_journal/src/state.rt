@@ -1,6 +1,7 @@
 //! The state of a follower as a text, from which another one goes on.
-ghost use Rattle.std.specs.Prelude.{◌≡◌, [], IfOk};
+ghost use Rattle.std.specs.Prelude.{◌≡◌, [], IfOk, IfSome, string_bytes};
 ghost use Rattle.rb_script_types.specs.Config.{config_view, IsConfig};
+ghost use Rattle.rb_journal.specs.Parts.{EndsLine};
 
 use crate::words::{Unread, Words, Written, write_all};
 use rb_core::{Core, Snapshot};
@@ -11,7 +12,7 @@ use std::collections::BTreeMap;
 
 /// What a follower goes on from, beside its setup.
 #[derive(Drop)]
-pub(crate) struct State {
+pub struct State {
     pub core: Core,
     pub reading: Reading,
     pub turns: usize,
@@ -19,13 +20,15 @@ pub(crate) struct State {
 }
 
 /// A state as a text: its words are read back in the same order.
-pub(crate) fn state_text(
+pub fn state_text(
     alloc: Global,
     snapshot: &Snapshot,
     reading: &Reading,
     turns: usize,
     forgotten: &[u64],
-) -> Result<String, AllocError> {
+) -> Result<String, AllocError>
+    ensures { IfOk result (λ text. EndsLine (string_bytes text)) }
+{
     let mut text = String::new(alloc);
     turns.write(&mut text)?;
     reading.room.write(&mut text)?;
@@ -36,8 +39,21 @@ pub(crate) fn state_text(
     Ok(text)
 }
 
-/// The state that a text tells. It is `Wrong` where it isn't the text of a state that a relayer which is configured so can be in.
-pub(crate) fn read_state(alloc: Global, config: Config, text: &str) -> Result<State, Unread>
+/// The state that a text tells. None where it isn't the text of a state that a relayer which is configured so can be in.
+pub fn read_state(alloc: Global, config: Config, text: &str) -> Result<Option<State>, AllocError>
+    requires { IsConfig (config_view config) }
+    ensures config { IfOk result (λ found. IfSome found (λ s. s.core.config ≡ config_view config)) }
+    ensures log { IfOk result (λ found. IfSome found (λ s. s.core.log.events ≡ [])) }
+{
+    match read_words(alloc, config, text) {
+        Ok(state) => Ok(Some(state)),
+        Err(Unread::Wrong) => Ok(None),
+        Err(Unread::NoMemory) => Err(AllocError),
+    }
+}
+
+/// The same, or why there is none.
+fn read_words(alloc: Global, config: Config, text: &str) -> Result<State, Unread>
     requires { IsConfig (config_view config) }
     ensures config { IfOk result (λ s. s.core.config ≡ config_view config) }
     ensures log { IfOk result (λ s. s.core.log.events ≡ []) }
