@@ -47,10 +47,10 @@ pub record IsParcelOf (known : Option (List AnswerFile)) (script : Script Global
 abbrev pub AreSendersOf : List ℕ → List (Option Sender) → Type 0
 AreSendersOf bytes senders = (setup : Setup) × (setup_of bytes ≡ Ok setup) × (map (option_map sender_view) senders ≡ setup.senders)
 
--- the files of what the script sends that a setup and the files of its folders make
-pub record AreMessagesOf (known : Option (List AnswerFile)) (bytes : List ℕ) (asked : Import) (p : Parcel) : Type 0 where
+-- the files of what the script sends that a setup and the files of its folders make; where the status is 0 no client and no path is left out
+pub record AreMessagesOf (known : Option (List AnswerFile)) (bytes : List ℕ) (asked : Import) (status : ℕ) (p : Parcel) : Type 0 where
   pub script : CodeScript Global
   pub senders : List (Option Sender)
-  pub made : IsMadeBy known bytes (signatures_of asked) script
+  pub made : IsMadeBy known bytes (signatures_of asked) status script
   pub sent_by : AreSendersOf bytes senders
   pub parcel : IsParcelOf known (script_view script) senders p

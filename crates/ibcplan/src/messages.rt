@@ -1,5 +1,5 @@
 //! The client messages and the transactions of a script's last turn, or of a setup's, made of the answers of nodes.
-ghost use Rattle.std.specs.Prelude.{◌≡◌, IfOk, IfSome};
+ghost use Rattle.std.specs.Prelude.{◌≡◌, IfOk, IfSome, max};
 ghost use Rattle.rb_script_types.specs.Script.{script_view, IsReadScript};
 ghost use Rattle.ibcplan.specs.Headline.{AreMessagesOf, AreSendersOf, HasParcel, IsParcelOf, IsSentBy};
 ghost use Rattle.ibcplan.specs.Sendings.{IsSendingOf};
@@ -90,7 +90,7 @@ pub fn sent_by_setup<'a, R: Threads + Sync, F: AnswerFolders, G: Gate + Sync>(
     import: Import<'_>,
     gate: &G,
 ) -> Result<Sent, ProgramError<'a>>
-    ensures { IfOk result (λ sent. IfSome sent.parcel (AreMessagesOf (F.known files.now) input.now import.entry)) }
+    ensures { IfOk result (λ sent. IfSome sent.parcel (AreMessagesOf (F.known files.now) input.now import.entry sent.told.status)) }
 {
     let senders = senders_of(files.alloc(), input)?;
     let imported = made(files, input, import)?;
@@ -110,7 +110,8 @@ fn told_behind<'a>(
     status: u8,
     sent: Sent,
 ) -> Result<Sent, ProgramError<'a>>
-    ensures { IfOk result (λ told. told.parcel ≡ sent.parcel) }
+    ensures parcel { IfOk result (λ told. told.parcel ≡ sent.parcel) }
+    ensures status { IfOk result (λ told. told.told.status ≡ max sent.told.status status) }
 {
     let Sent {
         parcel,

@@ -1,5 +1,5 @@
 -- What holds of files, where they are known.
-use Rattle.std.proofs.Common.{◌≡◌, ◌<◌, ◌≤◌, ◌+◌, ℕ, List, [], ◌∷◌, ◌++◌, get_or, length, map, ap, subst, sym, take, ◌∙◌}
+use Rattle.std.proofs.Common.{◌≡◌, ◌<◌, ◌≤◌, ◌+◌, ℕ, List, [], ◌∷◌, ◌++◌, get_or, length, map, ap, refl, subst, sym, take, ◌∙◌}
 use Rattle.std.specs.Prelude.{Bool, true, Option, Some, None, Result, Ok, Err, IfOk, String, Vec, string_bytes}
 use Rattle.std.specs.Global.{Global}
 use Rattle.std.specs.List.{AllZip, enumerate_from}
@@ -11,6 +11,7 @@ use Rattle.rb_import_check.specs.declared.saved.Saved.{Saved}
 use Rattle.ibcplan_folders.specs.Files.{TellsIn}
 use Rattle.ibcplan_folders.specs.Folders.{AnswerFile, IsAnswerIn, OfKnown, content, kept, names_in}
 use Rattle.ibcplan_folders.specs.declared.importing.Votes.{Votes}
+use Rattle.ibcplan_folders.specs.declared.importing.Votes.TheVariants.{Kept, LeftOut}
 
 -- beside a list nothing is made yet
 pub known_none : {A B : Type 0} (known : Option (List AnswerFile)) (R : List AnswerFile → A → B → Type 0) (ys : List B) → ys ≡ [] → OfKnown known (λ files. AllZip (R files) [] ys)

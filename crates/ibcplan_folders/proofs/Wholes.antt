@@ -4,20 +4,36 @@ use Rattle.std.specs.Prelude.{Result, String, IfOk, is_some, string_bytes}
 use Rattle.std.specs.Global.{Global}
 use Rattle.rb_import.specs.Openings.{Opens, hold_verdicts}
 use Rattle.rb_import_check.specs.declared.signed.Signatures.{Signatures}
+use Rattle.rb_import_setup.specs.declared.setup.Setup.{Setup}
 use Rattle.rb_import_merge.specs.Seen.{HoldsOfSeen}
 use Rattle.rb_import_merge.specs.declared.seen.Seen.{Seen}
 use Rattle.ibcplan_folders.specs.declared.importing.ImportedText.{ImportedText}
 use Rattle.ibcplan_folders.specs.declared.left_out.Fleet.{Fleet}
 use Rattle.ibcplan_folders.specs.declared.left_out.LeftOut.{LeftOut}
 use Rattle.ibcplan_folders.specs.Files.{HoldsOfRest}
+use Rattle.ibcplan_folders.specs.Leavings.{StaysWhole}
 use Rattle.ibcplan_folders.specs.LeftOut.{import_status}
 
 abbrev status_if : Bool → ℕ
 status_if b = if b then 7 else 0
 
-nothing : (b : Bool) → status_if b ≡ status_if false → b ≡ false
+pub nothing : (b : Bool) → status_if b ≡ status_if false → b ≡ false
 nothing true e = absurd (omega (arith, e))
 nothing false e = refl
+
+-- where the status is 0 nothing was left out before
+pub none_before : (l : LeftOut) (status : ℕ) → (is_some l.first ≡ true → status ≡ 7) → status ≡ 0 → import_status l ≡ 0
+none_before l status some zero = go (is_some l.first) some
+  where
+    go : (b : Bool) → (b ≡ true → status ≡ 7) → status_if b ≡ 0
+    go true some = let seven = some refl in absurd (omega (arith, seven, zero))
+    go false some = refl
+
+pub whole_after : (a b c : LeftOut) (r s t : Setup) → StaysWhole a b r s → StaysWhole b c s t → StaysWhole a c r t
+whole_after a b c r s t first second none =
+    let before = second none in
+    let begun = first before.0 in
+    (begun.0, before.1 ∙ begun.1)
 
 -- where the status is 0 the script is that of the whole fleet
 pub whole_script : {E : Type 0} (fleet left : Fleet) (l : LeftOut) (r : Result ImportedText E) (text : String Global) → (is_some l.first ≡ false → left ≡ fleet)

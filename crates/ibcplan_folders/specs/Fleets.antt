@@ -75,17 +75,18 @@ PathsHave Has f = AllZip (Has 0) (path_ids f.setup.paths.items) f.answers.paths.
 abbrev pub AreTold : Option (List AnswerFile) → ℕ → List ℕ → Vec Saved Global → Type 0
 AreTold known since id saved = OfKnown known (λ files. AreAnswersIn LeftOut since id files saved.items)
 
--- the fleet is what is left of the setup of a text, with what the files tell of its chains, clients and paths
-pub record IsFleetOf (known : Option (List AnswerFile)) (bytes : List ℕ) (f : Fleet) : Type 0 where
+-- the fleet is what is left of the setup of a text, with what the files tell of its chains, clients and paths; where the status is 0 nothing is left out
+pub record IsFleetOf (known : Option (List AnswerFile)) (bytes : List ℕ) (status : ℕ) (f : Fleet) : Type 0 where
   pub setup : Setup
   pub read : setup_of bytes ≡ Ok (setup_view setup)
   pub rest : IsRestOf setup f.setup
+  pub whole : status ≡ 0 → f.setup ≡ setup
   pub chains : ChainsHave (AreTold known) f
   pub clients : ClientsHave (AreTold known) f
   pub paths : PathsHave (AreTold known) f
 
 -- the script is that of such a fleet
-pub record IsMadeBy (known : Option (List AnswerFile)) (bytes : List ℕ) (signatures : Signatures) (script : Script Global) : Type 0 where
+pub record IsMadeBy (known : Option (List AnswerFile)) (bytes : List ℕ) (signatures : Signatures) (status : ℕ) (script : Script Global) : Type 0 where
   pub fleet : Fleet
-  pub is_fleet : IsFleetOf known bytes fleet
+  pub is_fleet : IsFleetOf known bytes status fleet
   pub is_made : IsMadeOf fleet signatures script

@@ -1,9 +1,10 @@
 -- (internal) A fleet on the way: what is left of it, and the answers that were refused.
-use Rattle.std.specs.Prelude.{◌≡◌, ◌⊎◌, ℕ, true, List, [], ◌∷◌, ◌++◌, Vec, string_bytes, map}
+use Rattle.std.specs.Prelude.{◌≡◌, ◌⊎◌, ℕ, false, true, is_some, List, [], ◌∷◌, ◌++◌, Vec, string_bytes, map}
 use Rattle.std.specs.Global.{Global}
 use Rattle.std.specs.List.{AllZip, enumerate_from, items_where_true}
 use Rattle.rb_import_check.specs.declared.saved.Saved.{Saved}
 use Rattle.rb_import_setup.specs.declared.setup.ClientSetup.{ClientSetup}
+use Rattle.rb_import_setup.specs.declared.setup.Setup.{Setup}
 use Rattle.rb_import_check.specs.declared.signed.Signatures.{Signatures}
 use Rattle.ibcplan_folders.specs.Files.{HoldsOfRest, IsMadeOf}
 use Rattle.ibcplan_folders.specs.Fleets.{IsWithout, is_tracked}
@@ -11,6 +12,7 @@ use Rattle.ibcplan_folders.specs.LeftOut.{clients_stay, paths_stay}
 use Rattle.ibcplan_folders.specs.declared.importing.MadeScript.{MadeScript}
 use Rattle.ibcplan_folders.specs.declared.left_out.Failure.{Failure}
 use Rattle.ibcplan_folders.specs.declared.left_out.Fleet.{Fleet}
+use Rattle.ibcplan_folders.specs.declared.left_out.LeftOut.{LeftOut}
 
 -- the answers of a chain stay, if a client tracks it
 abbrev pub StaysTracked : List ClientSetup → ℕ × Vec Saved Global → Vec Saved Global → Type 0
@@ -30,6 +32,10 @@ IsLeftOf (id ∷ ids) f rest = (next : Fleet) × IsFleetWithout id f next × IsL
 
 abbrev pub IsLeft : Fleet → Fleet → Type 0
 IsLeft f rest = (ids : List (List ℕ)) × IsLeftOf ids f rest
+
+-- where nothing is left out after this, nothing was before, and the setup is the whole one
+abbrev pub StaysWhole : LeftOut → LeftOut → Setup → Setup → Type 0
+StaysWhole old new setup rest = is_some new.first ≡ false → (is_some old.first ≡ false) × (rest ≡ setup)
 
 abbrev pub failed : List Failure → List (List ℕ)
 failed failures = map (λ f. string_bytes f.id) failures

@@ -11,7 +11,7 @@ ghost use Rattle.rb_script_read.specs.Work.{little};
 ghost use Rattle.rb_import.specs.Openings.{Opens, hold_verdicts};
 ghost use Rattle.ibcplan_folders.specs.Files.{HasVerdicts, IsScriptOfRest, TellsIn, signatures_of};
 ghost use Rattle.ibcplan_folders.specs.Fleets.{AreTold, ChainHas, ChainsHave, ClientHas, ClientsHave, IsFleetOf, IsMadeBy, IsRestOf, PathsHave, path_ids};
-ghost use Rattle.ibcplan_folders.specs.Leavings.{HasMore, IsLeftOf, IsMadeOfLeft, OrFailed, failed};
+ghost use Rattle.ibcplan_folders.specs.Leavings.{HasMore, IsLeftOf, IsMadeOfLeft, OrFailed, StaysWhole, failed};
 ghost use Rattle.ibcplan_folders.specs.Folders.{AreAnswersIn, IsAnswerIn, OfKnown};
 ghost use Rattle.ibcplan_folders.specs.LeftOut.{import_status};
 
@@ -70,7 +70,7 @@ pub fn made<'a, F: AnswerFolders>(
 ) -> Result<MadeScript, ProgramError<'a>>
     ensures form { IfOk result (λ made. IsReadScript (script_view made.script)) }
     ensures little { IfOk result (λ made. little (script_view made.script).config (script_view made.script).turns ≡ Ok tt) }
-    ensures script { IfOk result (λ made. IsMadeBy (F.known files.now) input.now (signatures_of import.entry) made.script) }
+    ensures script { IfOk result (λ made. IsMadeBy (F.known files.now) input.now (signatures_of import.entry) made.status made.script) }
 {
     let mut left_out = LeftOut::nothing(files.alloc());
     let fleet = fleet_of(files, input, import, &mut left_out)?;
@@ -84,7 +84,7 @@ fn fleet_of<'a, F: AnswerFolders>(
     import: Import<'_>,
     left_out: &mut LeftOut<'a>,
 ) -> Result<Fleet, ProgramError<'a>>
-    ensures { IfOk result (IsFleetOf (F.known files.now) input.now) }
+    ensures { IfOk result (IsFleetOf (F.known files.now) input.now (import_status left_out.new)) }
 {
     match read_setup(files.alloc(), input.bytes()) {
         Ok(setup) => read_fleet(files, setup, import, left_out),
@@ -270,6 +270,7 @@ fn read_fleet<'a, F: AnswerFolders>(
     left_out: &mut LeftOut<'a>,
 ) -> Result<Fleet, ProgramError<'a>>
     ensures rest { IfOk result (λ fleet. IsRestOf setup fleet.setup) }
+    ensures whole { IfOk result (λ fleet. StaysWhole left_out.old left_out.new setup fleet.setup) }
     ensures chains { IfOk result (ChainsHave (AreTold (F.known files.now))) }
     ensures clients { IfOk result (ClientsHave (AreTold (F.known files.now))) }
     ensures paths { IfOk result (PathsHave (AreTold (F.known files.now))) }
@@ -288,6 +289,7 @@ fn with_chains<'a, F: AnswerFolders>(
     left_out: &mut LeftOut<'a>,
 ) -> Result<Fleet, ProgramError<'a>>
     ensures rest { IfOk result (λ left. IsRestOf fleet.setup left.setup) }
+    ensures whole { IfOk result (λ left. StaysWhole left_out.old left_out.new fleet.setup left.setup) }
     ensures chains { IfOk result (ChainsHave (AreTold (F.known files.now))) }
 {
     let mut fleet = fleet;
@@ -312,6 +314,7 @@ fn with_clients<'a, F: AnswerFolders>(
 ) -> Result<Fleet, ProgramError<'a>>
     requires chains { ChainsHave (AreTold (F.known files.now)) fleet }
     ensures rest { IfOk result (λ left. IsRestOf fleet.setup left.setup) }
+    ensures whole { IfOk result (λ left. StaysWhole left_out.old left_out.new fleet.setup left.setup) }
     ensures chains { IfOk result (ChainsHave (AreTold (F.known files.now))) }
     ensures clients { IfOk result (ClientsHave (AreTold (F.known files.now))) }
 {
@@ -338,6 +341,7 @@ fn with_paths<'a, F: AnswerFolders>(
     requires chains { ChainsHave (AreTold (F.known files.now)) fleet }
     requires clients { ClientsHave (AreTold (F.known files.now)) fleet }
     ensures rest { IfOk result (λ left. IsRestOf fleet.setup left.setup) }
+    ensures whole { IfOk result (λ left. StaysWhole left_out.old left_out.new fleet.setup left.setup) }
     ensures chains { IfOk result (ChainsHave (AreTold (F.known files.now))) }
     ensures clients { IfOk result (ClientsHave (AreTold (F.known files.now))) }
     ensures paths { IfOk result (PathsHave (AreTold (F.known files.now))) }
@@ -357,7 +361,8 @@ fn without_all<'a>(
     failures: Vec<Failure<'a>>,
     left_out: &mut LeftOut<'a>,
 ) -> Result<Fleet, ProgramError<'a>>
-    ensures { IfOk result (IsLeftOf (failed failures.entry.items) fleet) }
+    ensures left { IfOk result (IsLeftOf (failed failures.entry.items) fleet) }
+    ensures whole { IfOk result (λ rest. StaysWhole left_out.old left_out.new fleet.setup rest.setup) }
 {
     let mut fleet = fleet;
     for failure in failures {

@@ -9,7 +9,8 @@ use Rattle.ibcplan.proofs.messages.sent_by_setup.Goals as goal
 pub returns : goal.returns
 returns g c =
     let known = g.F.AnswerFolders.known c.args.files.now in
-    let script = c.in_ok-imported.imported.script in
+    let imported = c.in_ok-imported.imported in
+    let script = imported.script in
     let sent = c.in_ok-sent.sent in
-    setup_sent known c.args.input.now c.args.import script c.in_ok-senders.senders.items sent c.told_behind.result c.in_ok-imported.ensures.script c.in_ok-senders.ensures
-    (subst (λ (senders : List (Option Sender)). IfSome sent.parcel (IsParcelOf known (script_view script) senders)) c.as_slice.ensures.value c.in_ok-sent.ensures) c.told_behind.ensures
+    setup_sent known c.args.input.now c.args.import imported.status script c.in_ok-senders.senders.items sent c.told_behind.result c.in_ok-imported.ensures.script c.in_ok-senders.ensures
+    (subst (λ (senders : List (Option Sender)). IfSome sent.parcel (IsParcelOf known (script_view script) senders)) c.as_slice.ensures.value c.in_ok-sent.ensures) c.told_behind.ensures.parcel c.told_behind.ensures.status

@@ -11,14 +11,14 @@ pub returns-clause-rest : goal.returns-clause-rest
 returns-clause-rest g c =
     let ids = failed c.client_answers.new.failures.items in
     let fleet : Fleet = record { setup = c.args.fleet.setup; answers = record c.args.fleet.answers { clients = c.in_ok-clients.clients } } in
-    if_ok (IsLeftOf ids fleet) (λ left. IsRestOf c.args.fleet.setup left.setup) c.without_all.result (λ left is. rest_of_left fleet left (ids, is)) c.without_all.ensures
+    if_ok (IsLeftOf ids fleet) (λ left. IsRestOf c.args.fleet.setup left.setup) c.without_all.result (λ left is. rest_of_left fleet left (ids, is)) c.without_all.ensures.left
 
 pub returns-clause-chains : goal.returns-clause-chains
 returns-clause-chains g c =
     let told = AreTold (g.F.AnswerFolders.known c.args.files.now) in
     let ids = failed c.client_answers.new.failures.items in
     let fleet : Fleet = record { setup = c.args.fleet.setup; answers = record c.args.fleet.answers { clients = c.in_ok-clients.clients } } in
-    if_ok (IsLeftOf ids fleet) (ChainsHave told) c.without_all.result (λ left is. chains_stay told ids fleet left is c.requires.chains) c.without_all.ensures
+    if_ok (IsLeftOf ids fleet) (ChainsHave told) c.without_all.result (λ left is. chains_stay told ids fleet left is c.requires.chains) c.without_all.ensures.left
 
 pub returns-clause-clients : goal.returns-clause-clients
 returns-clause-clients g c =
@@ -28,4 +28,4 @@ returns-clause-clients g c =
     let have : ClientsHave (OrFailed told ids) fleet =
     subst (λ (cs : List (List ℕ)). AllZip (ClientHas (OrFailed told ids) cs) c.args.fleet.setup.clients.items c.in_ok-clients.clients.items) c.as_slice.ensures.value
     (subst (λ (cs : List ClientSetup). AllZip (ClientHas (OrFailed told ids) c.as_slice.result.now) cs c.in_ok-clients.clients.items) c.as_slice-2.ensures.value c.in_ok-clients.ensures) in
-    if_ok (IsLeftOf ids fleet) (ClientsHave told) c.without_all.result (λ left is. clients_left told ids fleet left is have) c.without_all.ensures
+    if_ok (IsLeftOf ids fleet) (ClientsHave told) c.without_all.result (λ left is. clients_left told ids fleet left is have) c.without_all.ensures.left

@@ -11,21 +11,21 @@ pub returns-clause-rest : goal.returns-clause-rest
 returns-clause-rest g c =
     let ids = failed c.path_answers.new.failures.items in
     let fleet : Fleet = record { setup = c.args.fleet.setup; answers = record c.args.fleet.answers { paths = c.in_ok-paths.paths } } in
-    if_ok (IsLeftOf ids fleet) (λ left. IsRestOf c.args.fleet.setup left.setup) c.without_all.result (λ left is. rest_of_left fleet left (ids, is)) c.without_all.ensures
+    if_ok (IsLeftOf ids fleet) (λ left. IsRestOf c.args.fleet.setup left.setup) c.without_all.result (λ left is. rest_of_left fleet left (ids, is)) c.without_all.ensures.left
 
 pub returns-clause-chains : goal.returns-clause-chains
 returns-clause-chains g c =
     let told = AreTold (g.F.AnswerFolders.known c.args.files.now) in
     let ids = failed c.path_answers.new.failures.items in
     let fleet : Fleet = record { setup = c.args.fleet.setup; answers = record c.args.fleet.answers { paths = c.in_ok-paths.paths } } in
-    if_ok (IsLeftOf ids fleet) (ChainsHave told) c.without_all.result (λ left is. chains_stay told ids fleet left is c.requires.chains) c.without_all.ensures
+    if_ok (IsLeftOf ids fleet) (ChainsHave told) c.without_all.result (λ left is. chains_stay told ids fleet left is c.requires.chains) c.without_all.ensures.left
 
 pub returns-clause-clients : goal.returns-clause-clients
 returns-clause-clients g c =
     let told = AreTold (g.F.AnswerFolders.known c.args.files.now) in
     let ids = failed c.path_answers.new.failures.items in
     let fleet : Fleet = record { setup = c.args.fleet.setup; answers = record c.args.fleet.answers { paths = c.in_ok-paths.paths } } in
-    if_ok (IsLeftOf ids fleet) (ClientsHave told) c.without_all.result (λ left is. clients_stay told ids fleet left is c.requires.clients) c.without_all.ensures
+    if_ok (IsLeftOf ids fleet) (ClientsHave told) c.without_all.result (λ left is. clients_stay told ids fleet left is c.requires.clients) c.without_all.ensures.left
 
 pub returns-clause-paths : goal.returns-clause-paths
 returns-clause-paths g c =
@@ -34,4 +34,4 @@ returns-clause-paths g c =
     let fleet : Fleet = record { setup = c.args.fleet.setup; answers = record c.args.fleet.answers { paths = c.in_ok-paths.paths } } in
     let have : PathsHave (OrFailed told ids) fleet =
     subst (λ (ps : List PathSetup). AllZip (OrFailed told ids 0) (path_ids ps) c.in_ok-paths.paths.items) c.as_slice.ensures.value c.in_ok-paths.ensures in
-    if_ok (IsLeftOf ids fleet) (PathsHave told) c.without_all.result (λ left is. paths_left told ids fleet left is have) c.without_all.ensures
+    if_ok (IsLeftOf ids fleet) (PathsHave told) c.without_all.result (λ left is. paths_left told ids fleet left is have) c.without_all.ensures.left
