@@ -1,15 +1,15 @@
 -- Turns that are documents of their own.
-use Rattle.std.proofs.Common.{◌≡◌, ◌≢◌, ℕ, List, [], ◌∷◌, length, codes, Result, Ok, Err, IfOk, refl, sym, ap, subst, ◌∙◌}
+use Rattle.std.proofs.Common.{◌≡◌, ◌≢◌, ℕ, List, [], ◌∷◌, length, Result, Ok, Err, IfOk, refl, sym, ap, subst}
 use Rattle.std.specs.declared.alloc.Global.{Global}
 use Rattle.rb_script_types.specs.Config.{Config}
 use Rattle.rb_script_types.specs.Script.{Turn, IsReadTurn, turn_view}
 use Rattle.rb_script_toml.specs.declared.fault.RunError.{RunError}
 use Rattle.rb_script_toml.specs.declared.fault.RunError.TheVariants as errors
-use Rattle.rb_script_toml.specs.Faults.{Fault, fault_view, Fails, Gives}
+use Rattle.rb_script_toml.specs.Faults.{Fault, Fails, Gives}
 use Rattle.rb_script_toml.specs.Fields.{Section}
 use Rattle.rb_script_read.specs.declared.turn.NextTurn.{NextTurn}
 use Rattle.rb_script_read.specs.Turns.{Reading, turn}
-use Rattle.rb_script_read.specs.NextTurns.{path_in_document, fault_in_document, in_document, IsInDocument, next_turn_view}
+use Rattle.rb_script_read.specs.NextTurns.{path_in_document, in_document, IsInDocument, next_turn_view}
 use Rattle.rb_script_read.proofs.Forms.{turn-form}
 
 -- a path that isn't empty stays

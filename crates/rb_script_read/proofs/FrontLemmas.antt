@@ -1,5 +1,5 @@
 -- Lemmas on tables all of whose keys hold values.
-use Rattle.std.proofs.Common.{◌≡◌, ℕ, ◌==◌, Bool, true, false, not, cond, Ordering, Less, Equal, Greater, nat_cmp, is_eq, List, [], ◌∷◌, length, Option, Some, None, IsSome, is_some, option_map, String, Global, BTreeMap, Vec, string_bytes, refl, sym, ap, ◌∙◌, arith}
+use Rattle.std.proofs.Common.{◌≡◌, ℕ, true, false, cond, Ordering, Less, Equal, Greater, nat_cmp, is_eq, List, [], ◌∷◌, length, Option, Some, None, is_some, option_map, String, Global, string_bytes, refl, sym, ap, ◌∙◌, arith}
 use Rattle.std.proofs.lemmas.Bool.{true≢false}
 use Rattle.std.specs.Cmp.Lexicographic.{slice_cmp}
 use Rattle.std.specs.BTreeMap.{insert_entry, is_at}
@@ -9,7 +9,7 @@ use Rattle.std.specs.Ordering.{match_ordering}
 use Rattle.toml.specs.declared.value.Value.{Value}
 use Rattle.toml.specs.Data.{Data, Members, no_members, member, get_member}
 use Rattle.toml.specs.View.{view, members_view}
-use Rattle.toml.specs.Tables.{Node, Nodes, no_nodes, node, value, get_node, insert, key_value, put, along_dots, close}
+use Rattle.toml.specs.Tables.{Node, Nodes, value, get_node, insert, key_value, put, along_dots, close}
 use Rattle.toml_parser.specs.Reading.{path_view}
 use Rattle.toml.proofs.Turns.{at_key_new}
 use Rattle.toml.proofs.Views.{Entry, view-lookup}

@@ -1,5 +1,5 @@
 -- Lemmas on plain scripts: another value at a key, the lines of a document, and tables in sequence.
-use Rattle.std.proofs.Common.{◌≡◌, ◌≢◌, ℕ, suc, ◌+◌, ◌-◌, ◌<◌, ◌≤◌, ◌==◌, nat_le, Bool, true, false, cond, Ordering, Less, Equal, Greater, nat_cmp, is_eq, List, [], ◌∷◌, ◌++◌, length, map, codes, drop, slice_index, Option, Some, None, option_map, Result, Ok, Err, IfOk, IsUtf8, inl, inr, ◌⊎◌, refl, sym, ap, subst, ◌∙◌, arith}
+use Rattle.std.proofs.Common.{◌≡◌, ◌≢◌, ℕ, suc, ◌+◌, ◌-◌, ◌<◌, ◌≤◌, ◌==◌, nat_le, true, false, cond, Ordering, Less, Equal, Greater, nat_cmp, is_eq, List, [], ◌∷◌, ◌++◌, length, map, codes, drop, slice_index, Option, Some, None, option_map, Result, Ok, Err, IfOk, IsUtf8, inl, inr, ◌⊎◌, refl, sym, ap, subst, ◌∙◌, arith}
 use Rattle.std.proofs.lemmas.Bool.{cases_Bool, leb-true, true≢false}
 use Rattle.std.proofs.Common.{le-leb}
 use Rattle.std.proofs.lemmas.Map.Text.{is_eq-slice_cmp}
@@ -11,6 +11,8 @@ use Rattle.std.specs.Ordering.{match_ordering}
 use Rattle.std.specs.Str.{bytes_eq}
 use Rattle.toml_parser.specs.Lexical.{first, skip_ws}
 use Rattle.toml_parser.specs.Strings.{recursion_limit, key}
+use Rattle.toml.specs.declared.value.Value.{Value}
+use Rattle.toml.specs.View.{items_view}
 use Rattle.toml.specs.Data.{Data, array, table, Items, no_items, item, Members, no_members, member, get_member, same_key, push_item}
 use Rattle.toml.specs.Tables.{Node, Nodes, no_nodes, node, value, open_array, get_node, insert, replace, close, close_node, key_value, array_table, put, define, along_header}
 use Rattle.toml.specs.Parse.{val, after_byte, header_key, key_equals, expression, line, ends_line}
@@ -108,14 +110,14 @@ get-insert k e x (node l z ns) h =
     elim (cases_ordering (slice_cmp nat_cmp k l)) [
       | inl less ↦
           let g = rw less at h in
-          elim (cases_Bool (same_key e k)) [ | inl same ↦ not_some x (rw same at g) | inr other ↦ rw other at g ]
+          elim (cases_Bool (same_key e k)) [ inl same ↦ not_some x (rw same at g) | inr other ↦ rw other at g ]
       | inr rest ↦ elim rest [
         | inl tie ↦
             let g = rw tie at h in
-            elim (cases_Bool (same_key e l)) [ | inl same ↦ not_some x (rw same at g) | inr other ↦ rw other (rw other at g) ]
+            elim (cases_Bool (same_key e l)) [ inl same ↦ not_some x (rw same at g) | inr other ↦ rw other (rw other at g) ]
         | inr more ↦
             let g = rw more at h in
-            elim (cases_Bool (same_key e l)) [ | inl same ↦ not_some z (rw same at g) | inr other ↦ rw other (get-insert k e x ns (rw other at g)) ]
+            elim (cases_Bool (same_key e l)) [ inl same ↦ not_some z (rw same at g) | inr other ↦ rw other (get-insert k e x ns (rw other at g)) ]
       ]
     ]
 
@@ -308,9 +310,20 @@ frame-around ver room s ds f h fits none listed =
     let there = leb-true (entries windows goals events settlements) (room - items_count ds) (check-passed _ TooManyEvents s.path v few) in
     let enough : nat_le (entries windows goals ds settlements) room ≡ true = le-leb (entries windows goals ds settlements) room (omega arith) in
     let left : room - entries windows goals ds settlements ≡ (room - items_count ds) - entries windows goals events settlements = omega arith in
-    rw (← f_is, only-set (turn_keys ver) e d s ∙ e0, needs-set (codes "from") time e d s refl ∙ e1, needs-set (codes "until") time e d s refl ∙ e2,
-    windows-set ver d s ∙ e3, ap (or_default no_items items) (optional-set (codes "goal") e d s refl) ∙ e4, listed-events ds s listed,
-    ap (or_default no_items items) (optional-set (codes "settle") e d s refl) ∙ e6, taken-set ver d s ∙ e7, enough, ordered, left)
+    rw (
+      ← f_is,
+      only-set (turn_keys ver) e d s ∙ e0,
+      needs-set (codes "from") time e d s refl ∙ e1,
+      needs-set (codes "until") time e d s refl ∙ e2,
+      windows-set ver d s ∙ e3,
+      ap (or_default no_items items) (optional-set (codes "goal") e d s refl) ∙ e4,
+      listed-events ds s listed,
+      ap (or_default no_items items) (optional-set (codes "settle") e d s refl) ∙ e6,
+      taken-set ver d s ∙ e7,
+      enough,
+      ordered,
+      left,
+    )
     ))))))))))
 
 pub turn-around : (c : Config) (reading : Reading) (s : Section) (ds : Items) (f : TurnHead) (windows : List HostWindow) (goals : List Asked) (settlements : List Settlement)
@@ -324,6 +337,25 @@ pub turn-around : (c : Config) (reading : Reading) (s : Section) (ds : Items) (f
 unfolding turn
 turn-around c reading s ds f windows goals settlements events after framed fits none listed hosted wanted seen settled =
     rw (frame-around c.version reading.room s ds f framed fits none listed, hosted, wanted, seen, settled)
+
+none_listed : (vs : List Value) → length vs ≡ 0 → items_view vs ≡ no_items
+none_listed [] h = refl
+none_listed (v ∷ vs) h = absurd (omega arith)
+
+-- a turn whose events were read before its other keys
+pub turn_read : (c : Config) (reading : Reading) (s : Section) (ds : Items) (f : TurnHead) (others : List Value) (windows : List HostWindow) (goals : List Asked) (settlements : List Settlement)
+    (events : List (Observation Global)) (after next : Names) → AreRead c (child s.path (codes "event")) reading.names s.members ds events after → after ≡ next
+    → length events ≤ reading.room → frame c.version (reading.room - length events) s ≡ Ok f → f.events ≡ items_view others → length others ≡ 0
+    → elements (host_window c.chains) (child s.path (codes "window")) [] f.windows ≡ Ok windows
+    → elements (asked (client_ids c.clients)) (child s.path (codes "goal")) [] f.goals ≡ Ok goals
+    → elements (settlement (client_ids c.clients)) (child s.path (codes "settle")) [] f.settlements ≡ Ok settlements
+    → turn c reading (with_events ds s) ≡ Ok (record { window = f.window; windows = windows; goals = goals; events = events; settlements = settlements; taken = f.taken }, record { names = next; room = f.room })
+turn_read c reading s ds f others windows goals settlements events after next seen same fits framed listed none hosted wanted settled =
+    let e : List ℕ = codes "event" in
+    let count : length events ≡ items_count ds = omega (arith, in_sequence-count (event c) (child s.path e) reading.names [] ds (events, after) seen.read) in
+    subst (λ (n : Names). turn c reading (with_events ds s) ≡ Ok (record { window = f.window; windows = windows; goals = goals; events = events; settlements = settlements; taken = f.taken }, record { names = n; room = f.room })) same
+    (turn-around c reading s ds f windows goals settlements events after (subst (λ (n : ℕ). frame c.version (reading.room - n) s ≡ Ok f) count framed) (omega (arith, count, fits)) (listed ∙ none_listed others none)
+    (λ gone. seen.listed (get-values e s.members ∙ ap (option_map value) gone)) hosted wanted seen.read settled)
 
 -- the table that a turn is
 pub turn_is : (c : Config) (index : ℕ) (reading : Reading) (ms : Members) → turn_at c index reading (table ms) ≡ turn c reading (record { path = element (codes "turn") index; members = ms })
@@ -354,11 +386,17 @@ script-around ms ds t c all u x read made there turns few light =
     pass (or_default no_items (array_of max_paths) (optional (codes "path") s)) _ t h3 (λ paths e4 h4.
     pass (or_default no_items (array_of max_turns) (optional (codes "turn") s)) _ t h4 (λ others e5 same.
     let t_is = same_ok _ t same in
-    rw (only-set top_keys e d s ∙ e0, needs-set (codes "version") version e d s refl ∙ e1,
-    ap (or_default no_items (array_of max_chains)) (optional-set (codes "chain") e d s refl) ∙ e2,
-    ap (or_default no_items (array_of max_clients)) (optional-set (codes "client") e d s refl) ∙ e3,
-    ap (or_default no_items (array_of max_paths)) (optional-set (codes "path") e d s refl) ∙ e4,
-    listed-turns ds s x there few, rw (← t_is) at made, turns, light)
+    rw (
+      only-set top_keys e d s ∙ e0,
+      needs-set (codes "version") version e d s refl ∙ e1,
+      ap (or_default no_items (array_of max_chains)) (optional-set (codes "chain") e d s refl) ∙ e2,
+      ap (or_default no_items (array_of max_clients)) (optional-set (codes "client") e d s refl) ∙ e3,
+      ap (or_default no_items (array_of max_paths)) (optional-set (codes "path") e d s refl) ∙ e4,
+      listed-turns ds s x there few,
+      rw (← t_is) at made,
+      turns,
+      light,
+    )
     ))))))
 
 -- ---- the keys of a turn
@@ -386,7 +424,11 @@ listed_read c path names key text rest old new v ds es before events known after
     let flat : around ds old ≡ values_of old = replace-missing e (value (array ds)) (values_of old) absent_there in
     let put_there = rw is at written in
     let there : get_node e (values_of new) ≡ Some (value v) = ap (get_node e) put_there ∙ get_node-insert e (value v) (values_of old) in (
-      array es, es, read, ends, rw flat absent,
+      array es,
+      es,
+      read,
+      ends,
+      rw flat absent,
       rw (flat, is) (ap (replace e (value (array es))) put_there ∙ replace-insert e (value v) (value (array es)) (values_of old)),
       record { listed = λ gone. not_some (value v) (sym there ∙ gone); read = rw stood then_read },
     )
@@ -397,7 +439,11 @@ pub other_read : (c : Config) (path : List ℕ) (names : Names) (key text rest :
 other_read c path names key text rest old new ds events known apart seen pair =
     let e : List ℕ = codes "event" in
     let (d, read, ends, absent, written) = pair in (
-      d, ds, read, ends, get-replace key e (value (array ds)) (values_of old) absent,
+      d,
+      ds,
+      read,
+      ends,
+      get-replace key e (value (array ds)) (values_of old) absent,
       ap (replace e (value (array ds))) written ∙ sym (insert-replace key e (value d) (value (array ds)) (values_of old) apart absent),
       record { listed = λ gone. seen.listed (get-insert key e (value d) (values_of old) (rw written at gone)); read = seen.read },
     )

@@ -1,17 +1,17 @@
 -- Lemmas on sets that are read before the other events of their turn.
-use Rattle.std.proofs.Common.{◌≡◌, ◌<◌, ℕ, zero, suc, List, [], ◌∷◌, ◌++◌, length, codes, Option, Some, None, option_map, Result, Ok, Err, All, IfOk, IfSome, Vec, refl, ap, sym, ◌∙◌}
+use Rattle.std.proofs.Common.{◌≡◌, ℕ, zero, suc, List, [], ◌∷◌, ◌++◌, codes, Option, Some, None, option_map, Result, Ok, Err, All, IfOk, IfSome, Vec, refl, ap, sym, ◌∙◌}
 use Rattle.std.specs.List.{AllZip, slice_get}
 use Rattle.std.specs.Option.{IsSomeAnd}
 use Rattle.std.specs.Option.{option_to_list}
 use Rattle.std.specs.declared.alloc.Global.{Global}
 use Rattle.std.proofs.lemmas.List.Elements.{All-cons, All-nil, All-pop}
 use Rattle.std.proofs.lemmas.Option.{slice_get_read}
-use Rattle.toml.specs.Data.{Data, Items, no_items, item}
+use Rattle.toml.specs.Data.{Data, Items}
 use Rattle.toml.specs.View.{view, items_view}
 use Rattle.toml.specs.declared.value.Value.{Value}
 use Rattle.rb_valset.specs.declared.set.ValidatorSet.{ValidatorSet}
 use Rattle.rb_script_toml.specs.declared.fault.RunError.{RunError}
-use Rattle.rb_script_toml.specs.Faults.{Fault, Gives}
+use Rattle.rb_script_toml.specs.Faults.{Gives}
 use Rattle.rb_script_toml.specs.Fields.{Section, section_at}
 use Rattle.rb_script_toml.specs.KeyPaths.{child, element}
 use Rattle.rb_script_config.proofs.ConfigForms.{same_ok}

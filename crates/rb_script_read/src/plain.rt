@@ -1,6 +1,6 @@
 //! A plain script, whose events are held as TOML one at a time: its keys stand first, each on a line, then its turns,
 //! each under `[[turn]]`. Any other text is left to the reader of whole texts, and so is each that has a fault.
-ghost use Rattle.std.specs.Prelude.{◌≡◌, ℕ, ◌<◌, ◌≤◌, [], ◌==◌, true, false, codes, length, string_bytes, IfOk, IfSome, IsTrue, Some, Ok, map};
+ghost use Rattle.std.specs.Prelude.{◌≡◌, ℕ, ◌<◌, ◌≤◌, [], codes, length, string_bytes, IfOk, IfSome, Some, Ok, map};
 ghost use Rattle.toml_parser.specs.Lexical.{first, skip_ws};
 ghost use Rattle.toml.specs.Data.{Items, no_items, table, push_item, Members};
 ghost use Rattle.toml.specs.View.{view, table_view};
@@ -8,7 +8,7 @@ ghost use Rattle.toml.specs.Tables.{Nodes, no_nodes, array_table, close};
 ghost use Rattle.toml.specs.Parse as grammar;
 ghost use Rattle.rb_script_types.specs.Script.{script_view, turn_view};
 ghost use Rattle.rb_script_toml.specs.Documents.{whole};
-ghost use Rattle.rb_script_toml.specs.Fields.{in_sequence, next_in_sequence, section_view};
+ghost use Rattle.rb_script_toml.specs.Fields.{in_sequence, section_view};
 ghost use Rattle.rb_script_toml.specs.Faults.{Gives};
 ghost use Rattle.rb_script_config.specs.Setups.{setup_view};
 ghost use Rattle.rb_script_read.specs.Events.{event};
@@ -31,7 +31,9 @@ use crate::work::check_work;
 use rb_script_config::{
     Setup, read_goals, read_settlements, read_setup, read_tables, read_windows,
 };
-use rb_script_toml::{MAX_BYTES, MAX_MARKS, RunError, Section, child_path, count_marks, element_path};
+use rb_script_toml::{
+    MAX_BYTES, MAX_MARKS, RunError, Section, child_path, count_marks, element_path,
+};
 use rb_script_types::{MAX_TURNS, Observation, Script, Turn};
 use rb_valset::Known;
 use std::alloc::Global;
@@ -49,7 +51,13 @@ pub struct TurnLines<'a> {
 }
 
 /// The set that an event is, if it is one.
-fn ready_set(alloc: Global, path: &str, place: usize, event: &Value, known: &mut Known) -> Option<ReadySet>
+fn ready_set(
+    alloc: Global,
+    path: &str,
+    place: usize,
+    event: &Value,
+    known: &mut Known,
+) -> Option<ReadySet>
     ensures { IfSome result (λ r. Gives (λ s. s) r.set (validators_at path.now place (view event.now))) }
 {
     if !is_set(event) {
@@ -100,7 +108,12 @@ fn ends_line(s: &str) -> bool
 }
 
 /// Reads the value of a key, up to the end of its line, and gives it to the key.
-fn read_value<'t>(alloc: Global, table: &mut Table, key: String, s: &'t str) -> Result<&'t str, NotPlain>
+fn read_value<'t>(
+    alloc: Global,
+    table: &mut Table,
+    key: String,
+    s: &'t str,
+) -> Result<&'t str, NotPlain>
     ensures pair { IfOk result (λ rest. IsPair (string_bytes key) s.now rest.now (table_view table.old) (table_view table.new)) }
     ensures shorter { IfOk result (λ rest. length rest.now < length s.now) }
 {
@@ -167,7 +180,7 @@ fn read_listed<'t>(
     ensures read { (names : Names) (ds : Items)
         → AreRead (setup_view setup.now) path.now names (table_view lines.old.table) ds lines.old.events.items (names_now lines.old.names)
         → IfOk result (λ rest. IsKeyRead (setup_view setup.now) path.now names (string_bytes key) s.now rest.now
-            (around ds (table_view lines.old.table)) (table_view lines.new.table) lines.new.events.items (names_now lines.new.names)) }
+        (around ds (table_view lines.old.table)) (table_view lines.new.table) lines.new.events.items (names_now lines.new.names)) }
     ensures earlier { lines.new.names.earlier.now ≡ lines.old.names.earlier.now }
     ensures shorter { IfOk result (λ rest. length rest.now < length s.now) }
 {
@@ -195,7 +208,7 @@ fn read_key<'t>(
     ensures read { (names : Names) (ds : Items)
         → AreRead (setup_view setup.now) path.now names (table_view lines.old.table) ds lines.old.events.items (names_now lines.old.names)
         → IfOk result (λ rest. IsKeyRead (setup_view setup.now) path.now names (string_bytes key) s.now rest.now
-            (around ds (table_view lines.old.table)) (table_view lines.new.table) lines.new.events.items (names_now lines.new.names)) }
+        (around ds (table_view lines.old.table)) (table_view lines.new.table) lines.new.events.items (names_now lines.new.names)) }
     ensures earlier { lines.new.names.earlier.now ≡ lines.old.names.earlier.now }
     ensures shorter { IfOk result (λ rest. length rest.now < length s.now) }
 {
@@ -216,8 +229,8 @@ fn read_lines<'t>(
     ensures read { (root : Nodes) (done : Items) (names : Names) (ds : Items) (n : ℕ) → length s.now < n
         → AreRead (setup_view setup.now) path.now names (table_view lines.old.table) ds lines.old.events.items (names_now lines.old.names)
         → IfOk result (λ rest. (es : Items)
-            × Leaves n (in_turn root done (around ds (table_view lines.old.table))) s.now (in_turn root done (around es (table_view lines.new.table))) rest.now
-            × AreRead (setup_view setup.now) path.now names (table_view lines.new.table) es lines.new.events.items (names_now lines.new.names)) }
+        × Leaves n (in_turn root done (around ds (table_view lines.old.table))) s.now (in_turn root done (around es (table_view lines.new.table))) rest.now
+        × AreRead (setup_view setup.now) path.now names (table_view lines.new.table) es lines.new.events.items (names_now lines.new.names)) }
     ensures earlier { lines.new.names.earlier.now ≡ lines.old.names.earlier.now }
     ensures within { IfOk result (λ rest. length rest.now ≤ length s.now) }
 {
@@ -345,7 +358,11 @@ fn read_text(alloc: Global, text: &str) -> Result<Script, NotPlain>
         return Err(NotPlain);
     }
     let (mut root, rest) = read_keys(alloc, text)?;
-    put(&mut root, String::from_str(alloc, "turn")?, Value::Array(Vec::new(alloc)))?;
+    put(
+        &mut root,
+        String::from_str(alloc, "turn")?,
+        Value::Array(Vec::new(alloc)),
+    )?;
     let section = Section {
         alloc,
         path: "",

@@ -1,4 +1,4 @@
-use Rattle.std.proofs.Common.{◌≡◌, ◌∙◌, string_bytes, ap, sym}
+use Rattle.std.proofs.Common.{◌∙◌, string_bytes, ap, sym}
 use Rattle.toml.specs.View.{members_view}
 use Rattle.rb_script_read.specs.Front.{values_of}
 use Rattle.rb_script_read.proofs.FrontLemmas.{missing, insert-values}

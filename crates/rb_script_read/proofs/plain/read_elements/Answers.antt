@@ -42,9 +42,10 @@ events-preserved c =
       omega (arith, l.invariant.1),
       c.in_ok-event.ensures.earlier ∙ l.invariant.2,
       λ n h.
-          let (m, ds, room, loop, read) = l.invariant.3 n h in
-          (
-            m - 1, push_item ds d, omega arith,
+          let (m, ds, room, loop, read) = l.invariant.3 n h in (
+            m - 1,
+            push_item ds d,
+            omega arith,
             loop ∙ items_more (val 79) m ds l.rest.now d _ _ (omega arith) other (rw start_is at c.in_ok-element.ensures.value) c.in_ok-rest.ensures.value,
             rw c.in_ok-push.ensures.items (sequence-push read_one path (names_now c.args.names.now) [] ds d l.events.items now one after read next),
           ),

@@ -1,4 +1,4 @@
-use Rattle.std.proofs.Common.{◌≡◌, codes, string_bytes, List, ℕ, Bor, sym, ◌∙◌}
+use Rattle.std.proofs.Common.{codes, string_bytes, List, ℕ, Bor, sym, ◌∙◌}
 use Rattle.std.proofs.lemmas.Slice.Eq.{bytes_eq-Decides}
 use Rattle.toml.specs.View.{table_view}
 use Rattle.rb_script_config.specs.Setups.{setup_view}

@@ -2,10 +2,8 @@ use Rattle.std.proofs.Common.{◌≡◌, ◌==◌, ◌<◌, true, length, string
 use Rattle.std.proofs.lemmas.Grind.{common_steps}
 use Rattle.toml_parser.specs.Lexical.{first}
 use Rattle.toml_parser.specs.Strings.{recursion_limit}
-use Rattle.toml.specs.View.{view, table_view}
 use Rattle.toml.proofs.Turns.{val_open_array}
 use Rattle.rb_script_config.specs.Setups.{setup_view}
-use Rattle.rb_script_read.specs.TurnNames.{names_now}
 use Rattle.rb_script_read.proofs.PlainLemmas.{listed_read}
 use Rattle.rb_script_read.proofs.plain.read_listed.Goals as goal
 

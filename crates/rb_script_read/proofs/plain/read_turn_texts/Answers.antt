@@ -49,7 +49,9 @@ returns-then-is_empty c root n h =
     let (last, here, now) = c.in_ok-next.ensures.read root done m room in
     let (k, space, on) = here in
     let next = subst (λ (r : Reading). turn_at cfg c.len.result (reading_view l.reading) (table (close last)) ≡ Ok (turn_view c.in_ok-next.next.turn, r)) (sym c.in_ok-take.ensures) now in (
-      done, last, reading_view c.take.new.self,
+      done,
+      last,
+      reading_view c.take.new.self,
       loop ∙ on ∙ lines_end k _ c.in_ok-next.after.now (omega arith) none,
       turns_push cfg done last l.turns.items c.push.new.self.items c.in_ok-next.next.turn c.len.result (reading_view l.reading) (reading_view c.take.new.self) read at next c.in_ok-push.ensures.items,
     )
