@@ -1,15 +1,16 @@
 -- What holds of files, where they are known.
 use Rattle.std.proofs.Common.{◌≡◌, ◌<◌, ◌≤◌, ◌+◌, ℕ, List, [], ◌∷◌, ◌++◌, get_or, length, map, ap, refl, subst, sym, take, ◌∙◌}
-use Rattle.std.specs.Prelude.{Bool, true, Option, Some, None, Result, Ok, Err, IfOk, String, Vec, string_bytes}
+use Rattle.std.specs.Prelude.{◌||◌, Bool, true, Option, Some, None, Result, Ok, Err, IfOk, String, Vec, string_bytes}
 use Rattle.std.specs.Global.{Global}
-use Rattle.std.specs.List.{AllZip, enumerate_from}
+use Rattle.std.specs.List.{AllZip, enumerate_from, list_any}
+use Rattle.std.specs.Str.{bytes_eq}
 use Rattle.rb_messages.proofs.Zipped.{placed_all, placed_more, zipped_all, zipped_more}
 use Rattle.sha2.specs.Sha256.{sha256}
-use Rattle.rb_import_answers.specs.Answers.{Told, answer_view, commit, judging, other, packets, stored, transactions, validators, verified}
+use Rattle.rb_import_answers.specs.Answers.{Told, answer_view, commit, judging, other, packets, stored, transactions, validators, verified, verdicts_file}
 use Rattle.rb_import_check.specs.Saved.{is_commit}
 use Rattle.rb_import_check.specs.declared.saved.Saved.{Saved}
 use Rattle.ibcplan_folders.specs.Files.{TellsIn}
-use Rattle.ibcplan_folders.specs.Folders.{AnswerFile, IsAnswerIn, OfKnown, content, kept, names_in}
+use Rattle.ibcplan_folders.specs.Folders.{AnswerFile, IsAnswerIn, OfKnown, content, is_judged_in, kept, names_in}
 use Rattle.ibcplan_folders.specs.declared.importing.Votes.{Votes}
 use Rattle.ibcplan_folders.specs.declared.importing.Votes.TheVariants.{Kept, LeftOut}
 
@@ -74,17 +75,18 @@ kept_commit LeftOut (verified v) = refl
 kept_commit LeftOut (other q) = refl
 
 -- an answer, by what is kept of it
-pub answer_of : (known : Option (List AnswerFile)) (votes : Votes) (since : ℕ) (folder name bytes read : List ℕ) (told_so : Told) (saved : Saved) → read ≡ bytes
-    → OfKnown known (λ files. content folder name files ≡ Some bytes) → TellsIn name since read told_so → answer_view saved.answer ≡ kept votes told_so → (is_commit told_so ≡ true → saved.digest ≡ sha256 read)
+pub answer_of : (known : Option (List AnswerFile)) (votes : Votes) (since : ℕ) (judged : Bool) (folder name bytes read : List ℕ) (told_so : Told) (saved : Saved) → read ≡ bytes
+    → OfKnown known (λ files. content folder name files ≡ Some bytes) → TellsIn name since read told_so → answer_view saved.answer ≡ kept votes told_so
+    → OfKnown known (λ files. judged ≡ is_judged_in folder files) → (judged ≡ true → is_commit told_so ≡ true → saved.digest ≡ sha256 read)
     → OfKnown known (λ files. IsAnswerIn votes since folder files name saved)
-answer_of None votes since folder name bytes read told_so saved same at tells answer digest = tt
-answer_of (Some files) votes since folder name bytes read told_so saved same at tells answer digest = record {
+answer_of None votes since judged folder name bytes read told_so saved same at tells answer beside digest = tt
+answer_of (Some files) votes since judged folder name bytes read told_so saved same at tells answer beside digest = record {
   bytes = read;
   told_so = told_so;
   is_there = at ∙ ap (λ bs. Some bs) (sym same);
   tells = tells;
   answer = answer;
-  digest = λ is. digest (sym (kept_commit votes told_so) ∙ ap is_commit (sym answer) ∙ is);
+  digest = λ has is. digest (beside ∙ has) (sym (kept_commit votes told_so) ∙ ap is_commit (sym answer) ∙ is);
 }
 
 -- what is needed is as it is asked for
@@ -101,3 +103,15 @@ in_folder known R folder names slice (Err e) same is all = tt
 in_folder known R folder names slice (Ok v) same is all =
     of_names known R folder (map string_bytes names) v.items is
     (subst (λ (ns : List (String Global)). OfKnown known (λ files. AllZip (R files) (map string_bytes ns) v.items)) same all)
+
+any_named : (p : List ℕ → Bool) (names : List (String Global)) → list_any (λ n. p (string_bytes n)) names ≡ list_any p (map string_bytes names)
+any_named p [] = refl
+any_named p (n ∷ names) = ap (λ b. p (string_bytes n) || b) (any_named p names)
+
+-- whether verdicts stand in a folder, by the names of its files
+pub judged_in : (known : Option (List AnswerFile)) (folder : List ℕ) (names slice : List (String Global)) (judged : Bool) → slice ≡ names → OfKnown known (λ files. map string_bytes names ≡ names_in folder files)
+    → judged ≡ list_any (λ n. bytes_eq (string_bytes n) verdicts_file) slice → OfKnown known (λ files. judged ≡ is_judged_in folder files)
+judged_in None folder names slice judged same is by = tt
+judged_in (Some files) folder names slice judged same is by =
+    by ∙ ap (λ (ns : List (String Global)). list_any (λ n. bytes_eq (string_bytes n) verdicts_file) ns) same ∙ any_named (λ n. bytes_eq n verdicts_file) names
+    ∙ ap (λ (ns : List (List ℕ)). list_any (λ n. bytes_eq n verdicts_file) ns) is

@@ -1,9 +1,9 @@
 -- The answers of nodes, as files in folders.
-use Rattle.std.specs.Prelude.{◌≡◌, ℕ, ◌&&◌, true, List, filter, find, map, Option, IfSome, Some, option_map}
-use Rattle.std.specs.List.{AllZip}
+use Rattle.std.specs.Prelude.{◌≡◌, ℕ, ◌&&◌, Bool, true, List, filter, find, map, Option, IfSome, Some, option_map}
+use Rattle.std.specs.List.{AllZip, list_any}
 use Rattle.std.specs.Str.{bytes_eq}
 use Rattle.sha2.specs.Sha256.{sha256}
-use Rattle.rb_import_answers.specs.Answers.{Told, answer_view, without_votes}
+use Rattle.rb_import_answers.specs.Answers.{Told, answer_view, verdicts_file, without_votes}
 use Rattle.rb_import_check.specs.Saved.{is_commit}
 use Rattle.rb_import_check.specs.declared.saved.Saved.{Saved}
 use Rattle.ibcplan_folders.specs.Files.{TellsIn}
@@ -24,6 +24,10 @@ names_in folder files = map (λ f. f.name) (filter (λ f. bytes_eq f.folder fold
 abbrev pub content : List ℕ → List ℕ → List AnswerFile → Option (List ℕ)
 content folder name files = option_map (λ f. f.bytes) (find (λ f. bytes_eq f.folder folder && bytes_eq f.name name) files)
 
+-- whether verdicts stand in the folder
+abbrev pub is_judged_in : List ℕ → List AnswerFile → Bool
+is_judged_in folder files = list_any (λ name. bytes_eq name verdicts_file) (names_in folder files)
+
 -- this holds of files, where they are known
 abbrev pub OfKnown : Option (List AnswerFile) → (List AnswerFile → Type 0) → Type 0
 OfKnown known Holds = IfSome known Holds
@@ -33,14 +37,14 @@ abbrev pub kept : Votes → Told → Told
 kept Kept t = t
 kept LeftOut t = without_votes t
 
--- the answer is what the folder's file of this name tells by its bytes; of a client's records those of this revision and of later ones
+-- the answer is what the folder's file of this name tells by its bytes; of a client's records those of this revision and of later ones; a commit that is judged has the file's digest
 pub record IsAnswerIn (votes : Votes) (since : ℕ) (folder : List ℕ) (files : List AnswerFile) (name : List ℕ) (saved : Saved) : Type 0 where
   pub bytes : List ℕ
   pub told_so : Told
   pub is_there : content folder name files ≡ Some bytes
   pub tells : TellsIn name since bytes told_so
   pub answer : answer_view saved.answer ≡ kept votes told_so
-  pub digest : is_commit (answer_view saved.answer) ≡ true → saved.digest ≡ sha256 bytes
+  pub digest : is_judged_in folder files ≡ true → is_commit (answer_view saved.answer) ≡ true → saved.digest ≡ sha256 bytes
 
 -- the answers are what the folder's files tell, one each and in their order
 abbrev pub AreAnswersIn : Votes → ℕ → List ℕ → List AnswerFile → List Saved → Type 0

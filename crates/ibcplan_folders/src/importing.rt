@@ -1,7 +1,8 @@
 //! Importing: the files of a folder are read, and the script that they make is given, or written, without the clients and
 //! the paths whose answers are refused.
 ghost use Rattle.std.specs.Prelude.{◌≡◌, ◌∷◌, ◌++◌, [], IfOk, MatchOption, Ok, OnOk, codes, is_some, map, slice_get, string_bytes, true};
-ghost use Rattle.std.specs.List.{AllZip, enumerate_from};
+ghost use Rattle.std.specs.List.{AllZip, enumerate_from, list_any};
+ghost use Rattle.std.specs.Str.{bytes_eq};
 ghost use Rattle.sha2.specs.Sha256.{sha256};
 ghost use Rattle.rb_import_answers.specs.Answers.{answer_view, told_in, verdicts_file, without_votes};
 ghost use Rattle.rb_import_answers.specs.Revisions.{IsRevision};
@@ -12,7 +13,7 @@ ghost use Rattle.rb_import.specs.Openings.{Opens, hold_verdicts};
 ghost use Rattle.ibcplan_folders.specs.Files.{HasVerdicts, IsScriptOfRest, TellsIn, signatures_of};
 ghost use Rattle.ibcplan_folders.specs.Fleets.{AreTold, ChainHas, ChainsHave, ClientHas, ClientsHave, IsFleetOf, IsMadeBy, IsRestOf, PathsHave, path_ids};
 ghost use Rattle.ibcplan_folders.specs.Leavings.{HasMore, IsLeftOf, IsMadeOfLeft, OrFailed, StaysWhole, failed};
-ghost use Rattle.ibcplan_folders.specs.Folders.{AreAnswersIn, IsAnswerIn, OfKnown};
+ghost use Rattle.ibcplan_folders.specs.Folders.{AreAnswersIn, IsAnswerIn, OfKnown, is_judged_in};
 ghost use Rattle.ibcplan_folders.specs.LeftOut.{import_status};
 
 use crate::answer_folders::{AnswerFolders, HostFolders};
@@ -514,7 +515,15 @@ pub fn read_folder<'a, F: AnswerFolders>(
         Ok(names) => names,
         Err(error) => return Err(of_folder(files, id, error)),
     };
-    read_files(files, id, names.as_slice(), since, votes)
+    let is_judged = has_verdicts(names.as_slice());
+    read_files(files, id, names.as_slice(), since, votes, is_judged)
+}
+
+/// Whether verdicts stand among files of these names.
+fn has_verdicts(names: &[String]) -> bool
+    ensures { result ≡ list_any (λ name. bytes_eq (string_bytes name) verdicts_file) names.now }
+{
+    names.iter().any(|name| name.as_str() == "verdicts.json")
 }
 
 /// The error of a folder.
@@ -571,12 +580,14 @@ fn read_files<'a, F: AnswerFolders>(
     names: &[String],
     since: u64,
     votes: Votes,
+    is_judged: bool,
 ) -> Result<Vec<Saved>, ProgramError<'a>>
+    requires { OfKnown (F.known files.now) (λ known. is_judged ≡ is_judged_in folder.now known) }
     ensures { IfOk result (λ saved. OfKnown (F.known files.now) (λ known. AllZip (IsAnswerIn votes since folder.now known) (map string_bytes names.now) saved.items)) }
 {
     let mut answers = Vec::new(files.alloc());
     for name in names {
-        let saved = read_file(files, folder, name.as_str(), since, votes)?;
+        let saved = read_file(files, folder, name.as_str(), since, votes, is_judged)?;
         add(&mut answers, saved)?;
     }
     Ok(answers)
@@ -606,14 +617,17 @@ fn read_file<'a, F: AnswerFolders>(
     name: &str,
     since: u64,
     votes: Votes,
+    is_judged: bool,
 ) -> Result<Saved, ProgramError<'a>>
+    requires { OfKnown (F.known files.now) (λ known. is_judged ≡ is_judged_in folder.now known) }
     ensures answer { IfOk result (λ saved. OfKnown (F.known files.now) (λ known. IsAnswerIn votes since folder.now known name.now saved)) }
     ensures verdicts { IfOk result (λ saved. HasVerdicts saved.answer → name.now ≡ verdicts_file) }
 {
     let file = place_in(files, folder, name)?;
     match files.read(folder, name) {
         Ok(bytes) => {
-            let saved = saved_of(files.alloc(), file.as_str(), name, bytes.as_slice(), since)?;
+            let bytes = bytes.as_slice();
+            let saved = saved_of(files.alloc(), file.as_str(), name, bytes, since, is_judged)?;
             match votes {
                 Votes::Kept => Ok(saved),
                 Votes::LeftOut => Ok(without_votes(files.alloc(), saved)),
@@ -634,15 +648,16 @@ fn saved_of<'a>(
     name: &str,
     bytes: &[u8],
     since: u64,
+    is_judged: bool,
 ) -> Result<Saved, ProgramError<'a>>
-    ensures digest { IfOk result (λ saved. is_commit (answer_view saved.answer) ≡ true → saved.digest ≡ sha256 bytes.now) }
+    ensures digest { IfOk result (λ saved. is_judged ≡ true → is_commit (answer_view saved.answer) ≡ true → saved.digest ≡ sha256 bytes.now) }
     ensures answer { IfOk result (λ saved. TellsIn name.now since bytes.now (answer_view saved.answer)) }
     ensures verdicts { IfOk result (λ saved. HasVerdicts saved.answer → name.now ≡ verdicts_file) }
 {
     let Ok(shown) = shown_text(alloc, file) else {
         return Err(ProgramError::NoMemory);
     };
-    match read_saved(alloc, shown, bytes, since) {
+    match read_saved(alloc, shown, bytes, since, is_judged) {
         Ok(saved) => Ok(in_file(saved, name)),
         Err(SavedError::NoMemory) => Err(out_of_memory(alloc, file)),
         Err(SavedError::Invalid { file, flaw, said }) => {

@@ -10,8 +10,8 @@ use rb_import_json::{AnswerError, FieldError, FieldErrorName};
 use sha2::{Digest, Sha256};
 use std::alloc::{AllocError, Global};
 
-/// An answer, the name of the file that it was saved in, and of a commit the SHA-256 of that file's content, by which
-/// verdicts know it; of others zeros.
+/// An answer, the name of the file that it was saved in, and of a commit that verdicts stand beside the SHA-256 of that
+/// file's content, by which they know it; else zeros.
 #[derive(Drop)]
 pub struct Saved {
     pub file: String,
@@ -42,22 +42,23 @@ pub enum SavedError {
 }
 
 /// Reads the answer that a file holds, without a client's records of a revision before this one; its flaw is the first one
-/// that its content has.
+/// that its content has. A commit has its digest where verdicts stand beside it.
 pub fn read_saved(
     alloc: Global,
     file: String,
     bytes: &[u8],
     since: u64,
+    is_judged: bool,
 ) -> Result<Saved, SavedError>
     ensures file { IfOk result (λ saved. saved.file ≡ file) }
-    ensures digest { IfOk result (λ saved. is_commit (answer_view saved.answer) ≡ true → saved.digest ≡ sha256 bytes.now) }
+    ensures digest { IfOk result (λ saved. is_judged ≡ true → is_commit (answer_view saved.answer) ≡ true → saved.digest ≡ sha256 bytes.now) }
     ensures answer { IfOk result (λ saved. told since bytes.now ≡ Ok (answer_view saved.answer)) }
     ensures flaw { IfErr result (IsFlawOf since file bytes.now) }
 {
     match read_answer(alloc, bytes, since) {
         Ok(answer) => Ok(Saved {
             file,
-            digest: digest_of(&answer, bytes),
+            digest: digest_of(&answer, bytes, is_judged),
             answer,
         }),
         Err(AnswerError::Invalid(flaw)) => Err(flawed(alloc, file, bytes, since, flaw)),
@@ -65,12 +66,12 @@ pub fn read_saved(
     }
 }
 
-/// The SHA-256 of a commit's file.
-fn digest_of(answer: &NodeAnswer, bytes: &[u8]) -> [u8; 32]
-    ensures { is_commit (answer_view answer.now) ≡ true → result ≡ sha256 bytes.now }
+/// The SHA-256 of a commit's file, where verdicts stand beside it.
+fn digest_of(answer: &NodeAnswer, bytes: &[u8], is_judged: bool) -> [u8; 32]
+    ensures { is_judged ≡ true → is_commit (answer_view answer.now) ≡ true → result ≡ sha256 bytes.now }
 {
     match answer {
-        NodeAnswer::Commit(_) => Sha256::digest(bytes),
+        NodeAnswer::Commit(_) if is_judged => Sha256::digest(bytes),
         _ => [0; 32],
     }
 }
