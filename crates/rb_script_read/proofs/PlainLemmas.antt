@@ -1,5 +1,5 @@
 -- Lemmas on plain scripts: another value at a key, the lines of a document, and tables in sequence.
-use Rattle.std.proofs.Common.{◌≡◌, ◌≢◌, ℕ, suc, ◌+◌, ◌-◌, ◌<◌, ◌≤◌, ◌==◌, nat_le, true, false, cond, Ordering, Less, Equal, Greater, nat_cmp, is_eq, List, [], ◌∷◌, ◌++◌, length, map, codes, drop, slice_index, Option, Some, None, option_map, Result, Ok, Err, IfOk, IsUtf8, inl, inr, ◌⊎◌, refl, sym, ap, subst, ◌∙◌, arith}
+use Rattle.std.proofs.Common.{◌≡◌, ◌≢◌, ℕ, suc, ◌-◌, ◌<◌, ◌≤◌, ◌==◌, nat_le, true, false, cond, Ordering, Less, Equal, Greater, nat_cmp, is_eq, List, [], ◌∷◌, ◌++◌, length, map, codes, drop, slice_index, Option, Some, None, option_map, Result, Ok, Err, IfOk, IsUtf8, inl, inr, ◌⊎◌, refl, sym, ap, subst, ◌∙◌, arith}
 use Rattle.std.proofs.lemmas.Bool.{cases_Bool, leb-true, true≢false}
 use Rattle.std.proofs.Common.{le-leb}
 use Rattle.std.proofs.lemmas.Map.Text.{is_eq-slice_cmp}
@@ -18,7 +18,7 @@ use Rattle.toml.specs.Tables.{Node, Nodes, no_nodes, node, value, open_array, ge
 use Rattle.toml.specs.Parse.{val, after_byte, header_key, key_equals, expression, line, ends_line}
 use Rattle.toml.proofs.NodeLaws.{get_node-insert, replace-insert}
 use Rattle.toml.proofs.Turns.{along_header_ok, at_key_ok, at_key_new}
-use Rattle.rb_script_toml.specs.Faults.{Fault, ◌>>=◌, check}
+use Rattle.rb_script_toml.specs.Faults.{Fault, check}
 use Rattle.rb_script_toml.specs.Fields.{Field, Section, section_at, needs, required, optional, or_default, only, unknown_key, items, items_count, next_in_sequence, in_sequence}
 use Rattle.rb_script_toml.specs.Fields.{time, elements, array as array_of}
 use Rattle.rb_script_toml.specs.KeyPaths.{child, element}
