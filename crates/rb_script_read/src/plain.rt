@@ -205,7 +205,7 @@ fn read_array<'t>(alloc: Global, key: &str, s: &'t str) -> Result<(Array, &'t st
     }
 }
 
-/// Reads the keys of a script, up to the header of its first turn.
+/// Reads the keys and tables of a script, up to the header of its first turn.
 fn read_root(alloc: Global, s: &str) -> Result<(Table, &str), NotPlain>
     ensures { (n : ℕ) → length s.now < n → IfOk result (λ p. (root : Nodes) × (path : List (List ℕ))
         × Leaves n (no_nodes, []) s.now (root, path) p.1.now × (close root ≡ table_view p.0)) }
