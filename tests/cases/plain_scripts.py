@@ -1,12 +1,9 @@
-"""Scripts that are written plainly, so that their events are read one at a time, and of which a few places are changed. Behind a byte order mark no text is plain, and
-the same program reads it whole: both tell the same."""
-import datetime
-import json
+"""Scripts of which a few places are changed, each read as it stands, so that its events are read one at a time where it is plain, and behind a byte order mark, with
+which no text is plain, so that the same program reads it whole: both tell the same."""
 import pathlib
 import random
 import re
 import subprocess
-import tomllib
 
 ROWS = pathlib.Path(__file__).resolve().parents[1] / "rows"
 COUNT, LEAST = 200, 50  # how many scripts, and how many of them at least are planned, and have a fault
@@ -17,34 +14,6 @@ BETWEEN = [b" ", b"\t", b"\n", b"\r\n", b"\r", b"# [[turn]] {\n", b" # ]\n", b"\
 STRANGE = [b'""', b"''", b'"""\n]"""', b"'''[[turn]]'''", b'"\\u0065vent"', b'"event"', b"[]", b"{}", b"[{}]", b"{ a.b = 1 }", b"a.b = 1\n", b"[[turn]]\n", b"[turn]\n", b"[[turn]]",
            b"[ [ turn ] ]\n", b"[[ turn ]] # turn\n", b"[[chain]]\n", b"event = []\n", b"event = [\n", b"]\n", b"goal = []\n", b"taken = 1\n", b"true", b"-1", b"1e3", b"0x1F", b"nan",
            b"1_000", b"18446744073709551616", b"9223372036854775807", b"2026-11-01", b"2026-11-01T12:09:00Z", b"\x00", b"\xff", "é".encode(), b"=", b"[" * 90]
-
-
-def value_text(value: object) -> str:
-    """A value as TOML, on a line of its own."""
-    if isinstance(value, dict):
-        return "{ " + ", ".join(f"{json.dumps(key)} = {value_text(item)}" for key, item in value.items()) + " }"
-    if isinstance(value, list):
-        return "[" + ", ".join(map(value_text, value)) + "]"
-    if isinstance(value, (datetime.datetime, datetime.date, datetime.time)):
-        return value.isoformat()
-    return json.dumps(value, ensure_ascii=False) if isinstance(value, (str, bool)) else str(value)
-
-
-def line_of(key: str, value: object) -> str:
-    """A key and its value; an array of tables has a line for each."""
-    if isinstance(value, list) and value and all(isinstance(item, dict) for item in value):
-        return f"{key} = [\n" + "".join(f"  {value_text(item)},\n" for item in value) + "]\n"
-    return f"{key} = {value_text(value)}\n"
-
-
-def plain_text(script: dict[str, object]) -> bytes:
-    """A script as a plain text: its keys first, then its turns."""
-    turns = script.pop("turn")
-    assert isinstance(turns, list)
-    lines = [line_of(key, value) for key, value in script.items()]
-    for turn in turns:
-        lines += ["\n[[turn]]\n", *(line_of(key, value) for key, value in turn.items())]
-    return "".join(lines).encode()
 
 
 def with_words(chance: random.Random, text: bytes) -> bytes:
@@ -79,20 +48,6 @@ def with_lines(chance: random.Random, text: bytes) -> bytes:
     return b"".join(chance.choice([rest, lines[:last] + moved + lines[last:], rest[:place] + moved + rest[place:]]))
 
 
-def plain_rows() -> list[bytes]:
-    """The rows that have turns, as plain texts of some length."""
-    texts = [path.read_text() for path in sorted(ROWS.iterdir()) if path.suffix == "" and 1_000 < path.stat().st_size < 20_000]
-    found = []
-    for text in texts:
-        try:
-            script = tomllib.loads(text)
-        except tomllib.TOMLDecodeError:
-            continue
-        if isinstance(script.get("turn"), list) and all(isinstance(turn, dict) for turn in script["turn"]):
-            found.append(plain_text(script))
-    return found
-
-
 def told_of(program: list[str], text: bytes) -> tuple[bytes, list[bytes], int]:
     """What is told of a script: the report, the line of the fault, and the status."""
     done = subprocess.run([*program, "plan", "-"], input=text, capture_output=True, timeout=120)
@@ -101,7 +56,8 @@ def told_of(program: list[str], text: bytes) -> tuple[bytes, list[bytes], int]:
 
 def plain_runs(program: list[str], _: pathlib.Path) -> tuple[int, int]:
     """How many changed scripts there are, and of how many not the same is told both ways."""
-    rows, wrong, statuses = plain_rows(), 0, []
+    rows = [path.read_bytes() for path in sorted(ROWS.iterdir()) if path.suffix == "" and 1_000 < path.stat().st_size < 20_000]
+    wrong, statuses = 0, []
     for seed in range(COUNT):
         chance = random.Random(seed)
         text = chance.choice(rows)

@@ -24,7 +24,6 @@ use Rattle.rb_script_toml.specs.declared.fault.FaultName.TheVariants.{OutOfRange
 use Rattle.rb_script_toml.specs.Fields.{Section, section_at, elements, next_in_sequence, in_sequence, needs, optional, or_default, only, maybe, number, max_number, height, time, hash, zero_hash, items, items_count}
 use Rattle.rb_script_toml.specs.KeyPaths.{child, element}
 use Rattle.rb_script_config.specs.Named.{reference}
-use Rattle.rb_script_config.specs.Chains.{chain}
 use Rattle.rb_script_config.specs.Clients.{client, client_ids}
 use Rattle.rb_script_read.specs.declared.event.EventKind.{EventKind}
 use Rattle.rb_script_read.specs.declared.event.EventKind.TheVariants as kinds

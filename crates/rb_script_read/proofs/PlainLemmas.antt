@@ -1,5 +1,5 @@
 -- Lemmas on plain scripts: another value at a key, the lines of a document, and tables in sequence.
-use Rattle.std.proofs.Common.{◌≡◌, ◌≢◌, ℕ, suc, ◌+◌, ◌-◌, ◌<◌, ◌≤◌, ◌==◌, nat_le, true, false, cond, Ordering, Less, Equal, Greater, nat_cmp, is_eq, List, [], ◌∷◌, ◌++◌, length, map, codes, drop, slice_index, Option, Some, None, option_map, Result, Ok, Err, IfOk, IsUtf8, inl, inr, ◌⊎◌, refl, sym, ap, subst, ◌∙◌, arith}
+use Rattle.std.proofs.Common.{◌≡◌, ◌≢◌, ℕ, suc, ◌-◌, ◌<◌, ◌≤◌, ◌==◌, nat_le, true, false, cond, Ordering, Less, Equal, Greater, nat_cmp, is_eq, List, [], ◌∷◌, ◌++◌, length, map, codes, drop, slice_index, Option, Some, None, option_map, Result, Ok, Err, IfOk, IsUtf8, inl, inr, ◌⊎◌, refl, sym, ap, subst, ◌∙◌, arith}
 use Rattle.std.proofs.lemmas.Bool.{cases_Bool, leb-true, true≢false}
 use Rattle.std.proofs.Common.{le-leb}
 use Rattle.std.proofs.lemmas.Map.Text.{is_eq-slice_cmp}
@@ -18,7 +18,7 @@ use Rattle.toml.specs.Tables.{Node, Nodes, no_nodes, node, value, open_array, ge
 use Rattle.toml.specs.Parse.{val, after_byte, header_key, key_equals, expression, line, ends_line}
 use Rattle.toml.proofs.NodeLaws.{get_node-insert, replace-insert}
 use Rattle.toml.proofs.Turns.{along_header_ok, at_key_ok, at_key_new}
-use Rattle.rb_script_toml.specs.Faults.{Fault, ◌>>=◌, check}
+use Rattle.rb_script_toml.specs.Faults.{Fault, check}
 use Rattle.rb_script_toml.specs.Fields.{Field, Section, section_at, needs, required, optional, or_default, only, unknown_key, items, items_count, next_in_sequence, in_sequence}
 use Rattle.rb_script_toml.specs.Fields.{time, elements, array as array_of}
 use Rattle.rb_script_toml.specs.KeyPaths.{child, element}
@@ -47,7 +47,7 @@ use Rattle.rb_script_read.specs.Scripts.{script, script_of}
 use Rattle.rb_script_read.specs.Turns.{TurnHead, Reading, entries, frame, is_taken, opening, turn, turn_at, turn_keys, turns_of, windows_in}
 use Rattle.rb_script_read.specs.Work.{little}
 use Rattle.rb_script_read.specs.Front.{values_of}
-use Rattle.rb_script_read.specs.Plain.{AreRead, IsKeyRead, IsPair, around, in_turn, set_member, with_events}
+use Rattle.rb_script_read.specs.Plain.{AreRead, IsKeyRead, IsPair, TakesPairs, around, in_array, in_turn, set_member, with_events}
 use Rattle.rb_script_types.specs.Script.{turn_view}
 use Rattle.rb_script_types.specs.declared.script.Turn.{Turn as CodeTurn}
 use Rattle.std.proofs.lemmas.Bool.Decides.{nat_tests}
@@ -187,42 +187,83 @@ unfolding line expression
 line_pair text at_value rest key d other read_key read ends = rw (other, read_key, read, ends)
 
 pub line_header : (text rest one two : List ℕ) (path : List (List ℕ)) (last : List ℕ) → (first text == 91) ≡ true → (slice_index text 1 == 91) ≡ true
-    → key (skip_ws (drop 2 text)) ≡ Some ((path, last), rest) → path ≡ [] → last ≡ codes "turn" → after_byte 93 rest ≡ Some one → after_byte 93 one ≡ Some two
-    → ends_line (skip_ws two) ≡ true → line text ≡ Some ((([], codes "turn"), array_table), two)
+    → key (skip_ws (drop 2 text)) ≡ Some ((path, last), rest) → path ≡ [] → after_byte 93 rest ≡ Some one → after_byte 93 one ≡ Some two
+    → ends_line (skip_ws two) ≡ true → line text ≡ Some ((([], last), array_table), two)
 unfolding line expression header_key
-line_header text rest one two path last a b read none named closed again ends = rw (a, b, read, closed, again, ends, none, named)
+line_header text rest one two path last a b read none closed again ends = rw (a, b, read, closed, again, ends, none)
 
-pub root_pair : (key : List ℕ) (d : Data) (ns new : Nodes) → get_node key ns ≡ None → new ≡ insert key (value d) ns → define (ns, []) (([], key), key_value d) ≡ Some (new, [])
+pub root_pair : TakesPairs (λ ns. (ns, []))
 unfolding define along_header
 root_pair key d ns new none written = rw (put-new key d ns none, written)
 
-edit_turn : (done : Items) (last new : Nodes) (key : List ℕ) (d : Data) → put ([], key) d last ≡ Some new
+edit_array : (done : Items) (last new : Nodes) (key : List ℕ) (d : Data) → put ([], key) d last ≡ Some new
     → option_map (open_array done) (along_header [] (put ([], key) d) last) ≡ Some (open_array done new)
 unfolding along_header
-edit_turn done last new key d edit = rw edit
+edit_array done last new key d edit = rw edit
 
-pub turn_pair : (root : Nodes) (done : Items) (last next : Nodes) (key : List ℕ) (d : Data) → get_node key last ≡ None → next ≡ insert key (value d) last
-    → define (in_turn root done last) (([], key), key_value d) ≡ Some (in_turn root done next)
+pub array_pair : (name : List ℕ) (root : Nodes) (done : Items) → TakesPairs (in_array name root done)
 unfolding define
-turn_pair root done last next key d none written =
-    let turn : List ℕ = codes "turn" in
+array_pair name root done key d last next none written =
     let old = open_array done last in
     let new = open_array done next in
-    let edit = edit_turn done last next key d (put-new key d last none ∙ ap Some (sym written)) in
-    rw (along_header_ok turn [] (put ([], key) d) (insert turn old root) (insert turn new root) old new (get_node-insert turn old root) edit (sym (replace-insert turn old new root)))
+    let edit = edit_array done last next key d (put-new key d last none ∙ ap Some (sym written)) in
+    rw (along_header_ok name [] (put ([], key) d) (insert name old root) (insert name new root) old new (get_node-insert name old root) edit (sym (replace-insert name old new root)))
 
-pub turn_first : (root : Nodes) → get_node (codes "turn") root ≡ None → define (root, []) (([], codes "turn"), array_table) ≡ Some (in_turn root no_items no_nodes)
+pub array_first : (name : List ℕ) (root : Nodes) (path : List (List ℕ)) → get_node name root ≡ None
+    → define (root, path) (([], name), array_table) ≡ Some (in_array name root no_items no_nodes)
 unfolding define along_header
-turn_first root none = rw (at_key_new (codes "turn") array_table root none)
+array_first name root path none = rw (at_key_new name array_table root none)
 
-pub turn_more : (root : Nodes) (done : Items) (last : Nodes)
-    → define (in_turn root done last) (([], codes "turn"), array_table) ≡ Some (in_turn root (push_item done (table (close last))) no_nodes)
+pub array_more : (name : List ℕ) (root : Nodes) (done : Items) (last : Nodes)
+    → define (in_array name root done last) (([], name), array_table) ≡ Some (in_array name root (push_item done (table (close last))) no_nodes)
 unfolding define along_header
-turn_more root done last =
-    let turn : List ℕ = codes "turn" in
+array_more name root done last =
     let old = open_array done last in
     let new = open_array (push_item done (table (close last))) no_nodes in
-    rw (at_key_ok turn array_table (insert turn old root) (insert turn new root) old new (get_node-insert turn old root) refl (sym (replace-insert turn old new root)))
+    rw (at_key_ok name array_table (insert name old root) (insert name new root) old new (get_node-insert name old root) refl (sym (replace-insert name old new root)))
+
+-- the same where the last table's keys hold values
+pub array_next : (name : List ℕ) (root : Nodes) (done next : Items) (ms : Members) → next ≡ push_item done (table ms)
+    → define (in_array name root done (values_of ms)) (([], name), array_table) ≡ Some (in_array name root next no_nodes)
+array_next name root done next ms same = array_more name root done (values_of ms) ∙ ap (λ (x : Items). Some (in_array name root x no_nodes)) (ap (λ (x : Members). push_item done (table x)) (close-values ms) ∙ sym same)
+
+-- ---- nodes and the values that they stand for
+
+pub absent-close : (k : List ℕ) (ns : Nodes) → get_node k (values_of (close ns)) ≡ None → get_node k ns ≡ None
+absent-close k no_nodes h = refl
+absent-close k (node l x ns) h =
+    elim (cases_Bool (same_key k l)) [
+      | inl here ↦ not_some (value (close_node x)) (rw here at h)
+      | inr there ↦ rw there (absent-close k ns (rw there at h))
+    ]
+
+close-insert_node : (k : List ℕ) (x y : Node) (ns : Nodes) → close_node x ≡ close_node y → close (insert k x ns) ≡ close (insert k y ns)
+close-insert_node k x y no_nodes same = ap (λ (d : Data). member k d no_members) same
+close-insert_node k x y (node l z ns) same =
+    elim (cases_ordering (slice_cmp nat_cmp k l)) [
+      | inl less ↦ simp less (ap (λ (d : Data). member k d (member l (close_node z) (close ns))) same)
+      | inr rest ↦ elim rest [
+        | inl tie ↦ simp tie (ap (λ (d : Data). member l d (close ns)) same)
+        | inr more ↦ simp more (ap (member l (close_node z)) (close-insert_node k x y ns same))
+      ]
+    ]
+
+pub close-insert : (k : List ℕ) (x : Node) (ns : Nodes) → close (insert k x ns) ≡ close (insert k x (values_of (close ns)))
+close-insert k x no_nodes = refl
+close-insert k x (node l z ns) =
+    elim (cases_ordering (slice_cmp nat_cmp k l)) [
+      | inl less ↦ simp less (ap (λ (ms : Members). member k (close_node x) (member l (close_node z) ms)) (sym (close-values (close ns))))
+      | inr rest ↦ elim rest [
+        | inl tie ↦ simp tie (ap (member l (close_node x)) (sym (close-values (close ns))))
+        | inr more ↦ simp more (ap (member l (close_node z)) (close-insert k x ns))
+      ]
+    ]
+
+-- a new key of a table, by a node that stands for its value
+pub close-new : (k : List ℕ) (x : Node) (d : Data) (ns : Nodes) (ms new : Members) → close_node x ≡ d → close ns ≡ ms → values_of new ≡ insert k (value d) (values_of ms)
+    → close (insert k x ns) ≡ new
+close-new k x d ns ms new same closed written =
+    close-insert_node k x (value d) ns same ∙ close-insert k (value d) ns ∙ ap (λ (x : Members). close (insert k (value d) (values_of x))) closed ∙ ap close (sym written) ∙ close-values new
 
 -- ---- tables in sequence
 
@@ -481,24 +522,26 @@ found_member k ms x h =
     ]
 
 -- the script of a text whose lines were read
-pub text_read : (text rest after : List ℕ) (m : ℕ) (keys root : Members) (v : Data) (done : Items) (last : Nodes) (t : Tables) (c : Config) (turns : List (Turn Global)) (end : Reading) (u : Unit {0})
-    → (first text == 0xEF) ≡ false → lines (suc (length text)) (no_nodes, []) text ≡ lines m (values_of keys, []) rest → 0 < m → length after < length (skip_blank rest)
+pub text_read : (text rest after : List ℕ) (m : ℕ) (ns : Nodes) (path : List (List ℕ)) (keys root : Members) (v : Data) (done : Items) (last : Nodes) (t : Tables) (c : Config) (turns : List (Turn Global)) (end : Reading)
+    (u : Unit {0}) → (first text == 0xEF) ≡ false → lines (suc (length text)) (no_nodes, []) text ≡ lines m (ns, path) rest → close ns ≡ keys → 0 < m → length after < length (skip_blank rest)
     → get_node (codes "turn") (values_of keys) ≡ None → values_of root ≡ insert (codes "turn") (value v) (values_of keys)
     → line (skip_blank rest) ≡ Some ((([], codes "turn"), array_table), after)
-    → lines (m - 1) (in_turn (values_of keys) no_items no_nodes) after ≡ Some (in_turn (values_of keys) done last)
+    → lines (m - 1) (in_turn ns no_items no_nodes) after ≡ Some (in_turn ns done last)
     → turns_of c opening (push_item done (table (close last))) ≡ Ok (turns, end)
     → tables (whole root) ≡ Ok t → config t ≡ Ok c → length turns ≤ max_turns → little c turns ≡ Ok u
     → (ms : Members) × (parse_document text ≡ Some ms) × (script (whole ms) ≡ Ok (record { config = c; turns = turns }))
-text_read text rest after m keys root v done last t c turns end u plain begun some shorter absent written header ended read tabled made few light =
+text_read text rest after m ns path keys root v done last t c turns end u plain begun same some shorter absent written header ended read tabled made few light =
     let e : List ℕ = codes "turn" in
     let node_now = open_array done last in
     let ds = push_item done (table (close last)) in
     let other : (length (skip_blank rest) == 0) ≡ false = grind (arith, nat_tests) in
-    let all = begun ∙ lines_more m _ _ rest _ _ some other header (turn_first (values_of keys) absent) ∙ ended in
-    let doc = document_some text (in_turn (values_of keys) done last) (rw (no_bom text plain) all) in
+    let gone : get_node e ns ≡ None = absent-close e ns (ap (λ (x : Members). get_node e (values_of x)) same ∙ absent) in
+    let all = begun ∙ lines_more m _ _ rest _ _ some other header (array_first e ns path gone) ∙ ended in
+    let doc = document_some text (in_turn ns done last) (rw (no_bom text plain) all) in
     let whole_root : insert e node_now (values_of keys) ≡ replace e node_now (values_of root) =
     sym (ap (replace e node_now) written ∙ replace-insert e (value v) node_now (values_of keys)) in
-    let closed : close (insert e node_now (values_of keys)) ≡ set_member e (array ds) root = ap close whole_root ∙ close-replace e node_now root in
+    let closed : close (insert e node_now ns) ≡ set_member e (array ds) root =
+    close-insert e node_now ns ∙ ap (λ (x : Members). close (insert e node_now (values_of x))) same ∙ ap close whole_root ∙ close-replace e node_now root in
     let there : get_node e (values_of root) ≡ Some (value v) = ap (get_node e) written ∙ get_node-insert e (value v) (values_of keys) in
     let (x, found) = found_member e root (value v) there in
     let count = in_sequence-count (turn c) e opening [] ds (turns, end) read in

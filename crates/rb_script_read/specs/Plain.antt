@@ -4,7 +4,7 @@ use Rattle.std.specs.declared.alloc.Global.{Global}
 use Rattle.toml_parser.specs.Lexical.{skip_ws}
 use Rattle.toml_parser.specs.Strings.{recursion_limit}
 use Rattle.toml.specs.Data.{Data, array, Items, no_items, Members, no_members, member, same_key}
-use Rattle.toml.specs.Tables.{Nodes, value, open_array, get_node, insert, replace, Document}
+use Rattle.toml.specs.Tables.{Nodes, value, open_array, get_node, insert, replace, Document, define, key_value}
 use Rattle.toml.specs.Parse.{val, ends_line, lines}
 use Rattle.rb_script_types.specs.Config.{Config}
 use Rattle.rb_script_types.specs.declared.observation.Observation.{Observation}
@@ -17,9 +17,17 @@ use Rattle.rb_script_read.specs.Names.{Names}
 abbrev pub Leaves : ℕ → Document → List ℕ → Document → List ℕ → Type 0
 Leaves n doc text next rest = (m : ℕ) × (length rest < m) × (lines n doc text ≡ lines m next rest)
 
--- the document in a turn after others, with the keys of the text and so far of this turn
+-- the document in a table under a header in double brackets after others, with the keys of the text and so far of this table
+abbrev pub in_array : List ℕ → Nodes → Items → Nodes → Document
+in_array key root done last = (insert key (open_array done last) root, key ∷ [])
+
 abbrev pub in_turn : Nodes → Items → Nodes → Document
-in_turn root done last = (insert (codes "turn") (open_array done last) root, codes "turn" ∷ [])
+in_turn root done last = in_array (codes "turn") root done last
+
+-- a document with a table in which a new key is defined as in a table alone
+abbrev pub TakesPairs : (Nodes → Document) → Type 0
+TakesPairs within = (key : List ℕ) (d : Data) (ns new : Nodes) → get_node key ns ≡ None → new ≡ insert key (value d) ns
+    → define (within ns) (([], key), key_value d) ≡ Some (within new)
 
 -- a new key of a table, with the value that a line begins with, which ends there
 abbrev pub IsPair : List ℕ → List ℕ → List ℕ → Members → Members → Type 0

@@ -160,9 +160,8 @@ pub fn put(table: &mut Table, key: String, value: Value) -> Result<(), NotPlain>
     ensures absent { OnOk result (tables.get_node (string_bytes key) (values_of (table_view table.old)) ≡ None) }
     ensures written { OnOk result (values_of (table_view table.new) ≡ tables.insert (string_bytes key) (tables.value (view value)) (values_of (table_view table.old))) }
 {
-    if table.contains_key(key.as_str()) {
+    if table.insert(key, value)?.is_some() {
         return Err(NotPlain);
     }
-    table.insert(key, value)?;
     Ok(())
 }

@@ -1,10 +1,11 @@
-//! A plain script, whose events are held as TOML one at a time: its keys stand first, each on a line, then its turns,
-//! each under `[[turn]]`. Any other text is left to the reader of whole texts, and so is each that has a fault.
-ghost use Rattle.std.specs.Prelude.{◌≡◌, ℕ, ◌<◌, ◌≤◌, [], codes, length, string_bytes, IfOk, IfSome, Some, Ok, map};
+//! A plain script, whose events are held as TOML one at a time: its keys stand first, each on a line, then tables under
+//! headers as `[[client]]`, those of a key in a row, then its turns, each under `[[turn]]`. Any other text is left to the
+//! reader of whole texts, and so is each that has a fault.
+ghost use Rattle.std.specs.Prelude.{◌≡◌, ℕ, List, ◌<◌, ◌≤◌, [], codes, length, string_bytes, IfOk, IfSome, Some, Ok, map};
 ghost use Rattle.toml_parser.specs.Lexical.{first, skip_ws};
 ghost use Rattle.toml.specs.Data.{Items, no_items, table, push_item, Members};
-ghost use Rattle.toml.specs.View.{view, table_view};
-ghost use Rattle.toml.specs.Tables.{Nodes, no_nodes, array_table, close};
+ghost use Rattle.toml.specs.View.{view, array_view, table_view};
+ghost use Rattle.toml.specs.Tables.{Document, Nodes, no_nodes, array_table, close};
 ghost use Rattle.toml.specs.Parse as grammar;
 ghost use Rattle.rb_script_types.specs.Script.{script_view, turn_view};
 ghost use Rattle.rb_script_toml.specs.Documents.{whole};
@@ -16,7 +17,7 @@ ghost use Rattle.rb_script_read.specs.Front.{values_of, Shortens};
 ghost use Rattle.rb_script_toml.specs.KeyPaths.{child};
 ghost use Rattle.rb_script_read.specs.Names.{Names, names_of};
 ghost use Rattle.rb_script_read.specs.NextTurns.{next_turn_view};
-ghost use Rattle.rb_script_read.specs.Plain.{AreRead, IsKeyRead, IsPair, Leaves, in_turn, around, with_events};
+ghost use Rattle.rb_script_read.specs.Plain.{AreRead, IsKeyRead, IsPair, Leaves, TakesPairs, in_array, in_turn, around, with_events};
 ghost use Rattle.rb_script_read.specs.Ready.{validators_at};
 ghost use Rattle.rb_script_read.specs.Scripts.{script, script_of};
 ghost use Rattle.rb_script_read.specs.TurnNames.{names_now};
@@ -37,6 +38,7 @@ use rb_script_toml::{
 use rb_script_types::{MAX_TURNS, Observation, Script, Turn};
 use rb_valset::Known;
 use std::alloc::Global;
+use toml::value::Array;
 use toml::{Table, Value};
 use toml_parser::text::{byte_at, first, skip, skip_blank, skip_ws};
 use toml_parser::{RECURSION_LIMIT, dotted_key};
@@ -127,7 +129,9 @@ fn read_value<'t>(
 
 /// Reads keys and their values, up to the end or a header.
 fn read_keys(alloc: Global, s: &str) -> Result<(Table, &str), NotPlain>
-    ensures { (n : ℕ) → length s.now < n → IfOk result (λ p. Leaves n (no_nodes, []) s.now (values_of (table_view p.0), []) p.1.now) }
+    ensures read { (within : Nodes → Document) (n : ℕ) → TakesPairs within → length s.now < n
+        → IfOk result (λ p. Leaves n (within no_nodes) s.now (within (values_of (table_view p.0))) p.1.now) }
+    ensures within { IfOk result (λ p. length p.1.now ≤ length s.now) }
 {
     let mut table = Table::new(alloc);
     let mut rest = s;
@@ -151,20 +155,70 @@ fn after_closing(s: &str) -> Result<&str, NotPlain>
     Ok(skip(s, 1))
 }
 
-/// What follows `[[turn]]`.
-fn after_header(alloc: Global, s: &str) -> Result<&str, NotPlain>
-    ensures header { IfOk result (λ rest. grammar.line s.now ≡ Some ((([], codes "turn"), array_table), rest.now)) }
-    ensures shorter { IfOk result (λ rest. length rest.now < length s.now) }
+/// The key of a header in double brackets, and what follows its line.
+fn array_header(alloc: Global, s: &str) -> Result<(String, &str), NotPlain>
+    ensures header { IfOk result (λ p. grammar.line s.now ≡ Some ((([], string_bytes p.0), array_table), p.1.now)) }
+    ensures shorter { Shortens s.now result }
 {
     if first(s) != b'[' || byte_at(s, 1) != b'[' {
         return Err(NotPlain);
     }
     let (key, rest) = dotted_key(alloc, skip_ws(skip(s, 2)))?;
     let rest = after_closing(after_closing(rest)?)?;
-    if key.path.is_empty() && key.last.as_str() == "turn" && ends_line(rest) {
+    if key.path.is_empty() && ends_line(rest) {
+        Ok((key.last, rest))
+    } else {
+        Err(NotPlain)
+    }
+}
+
+/// What follows `[[turn]]`.
+fn after_header(alloc: Global, s: &str) -> Result<&str, NotPlain>
+    ensures header { IfOk result (λ rest. grammar.line s.now ≡ Some ((([], codes "turn"), array_table), rest.now)) }
+    ensures shorter { IfOk result (λ rest. length rest.now < length s.now) }
+{
+    let (key, rest) = array_header(alloc, s)?;
+    if key.as_str() == "turn" {
         Ok(rest)
     } else {
         Err(NotPlain)
+    }
+}
+
+/// Reads the tables that stand under headers of this key in a row, up to a header of another one.
+fn read_array<'t>(alloc: Global, key: &str, s: &'t str) -> Result<(Array, &'t str), NotPlain>
+    ensures read { (root : Nodes) (n : ℕ) → length s.now < n → IfOk result (λ p. (done : Items) × (last : Nodes)
+        × Leaves n (in_array key.now root no_items no_nodes) s.now (in_array key.now root done last) p.1.now
+        × (array_view p.0 ≡ push_item done (table (close last)))) }
+    ensures within { IfOk result (λ p. length p.1.now ≤ length s.now) }
+{
+    let mut tables = Vec::new(alloc);
+    let mut rest = s;
+    'tables: loop {
+        let (table, after) = read_keys(alloc, rest)?;
+        tables.push(Value::Table(table))?;
+        let (next, behind) = array_header(alloc, skip_blank(after, true))?;
+        if next.as_str() != key {
+            return Ok((tables, after));
+        }
+        rest = behind;
+    }
+}
+
+/// Reads the keys and tables of a script, up to the header of its first turn.
+fn read_root(alloc: Global, s: &str) -> Result<(Table, &str), NotPlain>
+    ensures { (n : ℕ) → length s.now < n → IfOk result (λ p. (root : Nodes) × (path : List (List ℕ))
+        × Leaves n (no_nodes, []) s.now (root, path) p.1.now × (close root ≡ table_view p.0)) }
+{
+    let (mut keys, mut rest) = read_keys(alloc, s)?;
+    'arrays: loop {
+        let (key, after) = array_header(alloc, skip_blank(rest, true))?;
+        if key.as_str() == "turn" {
+            return Ok((keys, rest));
+        }
+        let (tables, left) = read_array(alloc, key.as_str(), after)?;
+        put(&mut keys, key, Value::Array(tables))?;
+        rest = left;
     }
 }
 
@@ -357,7 +411,7 @@ fn read_text(alloc: Global, text: &str) -> Result<Script, NotPlain>
     if first(text) == 0xEF {
         return Err(NotPlain);
     }
-    let (mut root, rest) = read_keys(alloc, text)?;
+    let (mut root, rest) = read_root(alloc, text)?;
     put(
         &mut root,
         String::from_str(alloc, "turn")?,

@@ -6,7 +6,7 @@ use Rattle.rb_script_read.proofs.front.put.Goals as goal
 
 pub returns-clause-absent : goal.returns-clause-absent
 returns-clause-absent c =
-    missing (string_bytes c.args.key) c.args.table.now.entries (rw c.as_str.ensures.value at (sym c.contains_key.ensures ∙ c.if-contains_key.false))
+    missing (string_bytes c.args.key) c.args.table.now.entries (rw c.in_ok-insert.ensures.old at (sym c.is_some.ensures ∙ c.if-is_some.false))
 
 pub returns-clause-written : goal.returns-clause-written
 returns-clause-written c =

@@ -4,11 +4,11 @@ use Rattle.toml_parser.specs.Lexical.{first, skip_blank}
 use Rattle.toml.specs.View.{table_view}
 use Rattle.toml.proofs.Turns.{lines_more}
 use Rattle.rb_script_read.specs.Front.{values_of}
-use Rattle.rb_script_read.proofs.PlainLemmas.{line_pair, root_pair}
+use Rattle.rb_script_read.proofs.PlainLemmas.{line_pair}
 use Rattle.rb_script_read.proofs.plain.read_keys.Goals as goal
 
 pub lines-init : goal.lines-init
-lines-init c = (search rules, le_refl _, λ n h. (n, h, rw c.new-table.ensures.empty))
+lines-init c = (search rules, le_refl _, λ within n takes h. (n, h, rw c.new-table.ensures.empty))
 
 pub lines-preserved : goal.lines-preserved
 lines-preserved c =
@@ -24,7 +24,7 @@ lines-preserved c =
     let of_line = line_pair (skip_blank l.rest.now) c.in_ok-key.at_value.now c.in_ok-rest.rest.now key d no_header (rw start_is at c.in_ok-key.ensures.key) read ends in (
       search rules,
       omega (arith, l.invariant.1),
-      λ n h.
-          let (m, room, loop) = l.invariant.2 n h in
-          (m - 1, omega arith, loop ∙ lines_more m _ _ l.rest.now _ _ (omega arith) other of_line (root_pair key d (values_of (table_view l.table)) _ absent written)),
+      λ within n takes h.
+          let (m, room, loop) = l.invariant.2 within n takes h in
+          (m - 1, omega arith, loop ∙ lines_more m _ _ l.rest.now _ _ (omega arith) other of_line (takes key d (values_of (table_view l.table)) _ absent written)),
     )

@@ -1,10 +1,10 @@
-use Rattle.std.proofs.Common.{◌≡◌, ◌==◌, ◌-◌, false, length, string_bytes, le_refl, refl, ◌∙◌, rules, arith}
+use Rattle.std.proofs.Common.{◌≡◌, ◌==◌, ◌-◌, false, length, codes, string_bytes, le_refl, refl, ◌∙◌, rules, arith}
 use Rattle.std.proofs.lemmas.Grind.{common_steps}
 use Rattle.toml_parser.specs.Lexical.{first, skip_blank}
 use Rattle.toml.specs.View.{table_view}
 use Rattle.toml.proofs.Turns.{lines_more}
 use Rattle.rb_script_read.specs.Plain.{around}
-use Rattle.rb_script_read.proofs.PlainLemmas.{line_pair, turn_pair}
+use Rattle.rb_script_read.proofs.PlainLemmas.{array_pair, line_pair}
 use Rattle.rb_script_read.proofs.plain.read_lines.Goals as goal
 
 pub lines-init : goal.lines-init
@@ -28,5 +28,5 @@ lines-preserved c =
           let (m, room, loop) = leaves in
           let (d, fs, read, ends, absent, written, next) = c.in_ok-rest.ensures.read names es now in
           let of_line = line_pair (skip_blank l.rest.now) c.in_ok-key.at_value.now c.in_ok-rest.rest.now key d no_header (rw start_is at c.in_ok-key.ensures.key) read ends in
-          (fs, (m - 1, omega arith, loop ∙ lines_more m _ _ l.rest.now _ _ (omega arith) other of_line (turn_pair root done (around es (table_view l.lines.table)) _ key d absent written)), next),
+          (fs, (m - 1, omega arith, loop ∙ lines_more m _ _ l.rest.now _ _ (omega arith) other of_line (array_pair (codes "turn") root done key d (around es (table_view l.lines.table)) _ absent written)), next),
     )

@@ -8,7 +8,6 @@ use Rattle.rb_script_types.specs.Limits.{max_turns}
 use Rattle.rb_script_types.specs.Script.{turn_view}
 use Rattle.rb_script_config.specs.Setups.{setup_view}
 use Rattle.rb_script_config.specs.Tables.{tables_view}
-use Rattle.rb_script_read.specs.Front.{values_of}
 use Rattle.rb_script_read.specs.Work.{little}
 use Rattle.rb_script_read.proofs.PlainLemmas.{text_read}
 use Rattle.rb_script_read.proofs.plain.read_text.Goals as goal
@@ -22,7 +21,8 @@ returns c =
     let root = table_view c.put.new.table in
     let turns = map turn_view c.in_ok-turns.turns.items in
     let plain : (first text == 0xEF) ≡ false = grind (arith, common_steps) in
-    let (m, room, begun) = c.in_ok-root.ensures (suc (length text)) (omega arith) in
+    let (ns, path, leaves, same) = c.in_ok-root.ensures (suc (length text)) (omega arith) in
+    let (m, room, begun) = leaves in
     let named : string_bytes c.in_ok-from_str.field-0 ≡ codes "turn" = grind (arith, common_steps) in
     let absent = rw named at c.in_ok-put.ensures.absent in
     let written = rw named at c.in_ok-put.ensures.written in
@@ -30,9 +30,9 @@ returns c =
     let before : length (skip_blank rest) ≤ length rest = rw start_is at c.skip_blank.ensures.within in
     let shorter : length after < length (skip_blank rest) = rw start_is at c.in_ok-rest.ensures.shorter in
     let header = rw start_is at c.in_ok-rest.ensures.header in
-    let (done, last, end, ended, read) = c.in_ok-turns.ensures (values_of keys) (m - 1) (omega (arith, room, before, shorter)) in
+    let (done, last, end, ended, read) = c.in_ok-turns.ensures ns (m - 1) (omega (arith, room, before, shorter)) in
     let few : length turns ≤ max_turns = omega (arith, length-map c.in_ok-turns.turns.items turn_view) in
     let made : config_view c.into_config.result ≡ setup_view c.in_ok-setup.setup = c.into_config.ensures in
     let light = subst (λ (x : Config). little x turns ≡ Ok c.in_ok-check_work.field-0) made c.in_ok-check_work.ensures in
-    rw made (text_read text rest after m keys root _ done last (tables_view c.in_ok-tables.tables) (setup_view c.in_ok-setup.setup) turns end _ plain begun (omega arith) shorter
+    rw made (text_read text rest after m ns path keys root _ done last (tables_view c.in_ok-tables.tables) (setup_view c.in_ok-setup.setup) turns end _ plain begun same (omega arith) shorter
     absent written header ended read c.in_ok-tables.ensures c.in_ok-setup.ensures few light)

@@ -1,4 +1,4 @@
-use Rattle.std.proofs.Common.{◌≡◌, ◌==◌, ◌-◌, false, length, le_refl, refl, sym, subst, Ok, ◌∙◌, rules, arith}
+use Rattle.std.proofs.Common.{◌≡◌, ◌==◌, ◌-◌, false, length, codes, le_refl, refl, sym, subst, Ok, ◌∙◌, rules, arith}
 use Rattle.std.proofs.lemmas.Grind.{common_steps}
 use Rattle.toml_parser.specs.Lexical.{skip_blank}
 use Rattle.toml.specs.Data.{no_items, push_item, table}
@@ -7,7 +7,7 @@ use Rattle.toml.proofs.Turns.{lines_end, lines_more}
 use Rattle.rb_script_types.specs.Script.{turn_view}
 use Rattle.rb_script_config.specs.Setups.{setup_view}
 use Rattle.rb_script_read.specs.Turns.{Reading, reading_view, turn_at}
-use Rattle.rb_script_read.proofs.PlainLemmas.{turn_more, turns_push}
+use Rattle.rb_script_read.proofs.PlainLemmas.{array_more, turns_push}
 use Rattle.rb_script_read.proofs.plain.read_turn_texts.Goals as goal
 
 pub turns-init : goal.turns-init
@@ -32,7 +32,7 @@ turns-preserved c =
           let (k, space, on) = here in
           let next = subst (λ (r : Reading). turn_at cfg c.len.result (reading_view l.reading) (table (close last)) ≡ Ok (turn_view c.in_ok-next.next.turn, r)) (sym c.in_ok-take.ensures) now in (
             push_item done (table (close last)),
-            (k - 1, omega arith, loop ∙ on ∙ lines_more k _ _ c.in_ok-next.after.now _ _ (omega arith) other (rw start_is at c.in_ok-rest.ensures.header) (turn_more root done last)),
+            (k - 1, omega arith, loop ∙ on ∙ lines_more k _ _ c.in_ok-next.after.now _ _ (omega arith) other (rw start_is at c.in_ok-rest.ensures.header) (array_more (codes "turn") root done last)),
             turns_push cfg done last l.turns.items c.push.new.self.items c.in_ok-next.next.turn c.len.result (reading_view l.reading) (reading_view c.take.new.self) read at next c.in_ok-push.ensures.items,
           ),
     )
