@@ -16,6 +16,7 @@ NOT_SEARCHED = "not searched, since that takes long for so many turns and client
 MOST_UPDATES, MOST_OTHERS, MOST_REFUSED = 12, 10, 3  # so many arcs of a plan, of a bisection, and to a height out of reach are drawn
 EXPLAIN_WORDS = (
     (["--turn", "9"], b"error: invalid value '9' for '--turn <N>': the last turn of standard input is 4\n"),
+    (["--turn", "5"], b"error: invalid value '5' for '--turn <N>': the last turn of standard input is 4\n"),
     (["--turn", "0"], b"error: invalid value '0' for '--turn <N>': 0 is not in 1..=500\n"),
     (["--last", "--turn", "1"], b"error: the argument '--last' cannot be used with '--turn <N>'\n"),
     (["--client", "nobody"], b"error: invalid value 'nobody' for '--client <ID>': standard input has no such client\n"),
