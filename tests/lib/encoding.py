@@ -209,6 +209,8 @@ def run_messages(program, top, setup, folder, what, needed):
         wrong.append(told.stdout)
     if sorted(os.listdir(made)) != sorted([line.split()[0] for line in lines] + ["send.sh"]):
         wrong.append("other files")
+    if "tx sign" in (made / "send.sh").read_text():
+        wrong.append("a shell file that signs transactions, where there are none")
     if files and not wrong:
         back = read_back(program, setup, folder, made, [file[:4] for file in files])
         headers = headers_in(table)
