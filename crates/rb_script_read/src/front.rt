@@ -1,15 +1,14 @@
 //! TOML values at the front of a text, read one at a time. What isn't plain, as a key with points, is left to the
 //! reader of whole texts.
-ghost use Rattle.std.specs.Prelude.{◌≡◌, ℕ, ◌<◌, ◌≤◌, [], Some, None, length, string_bytes, IfOk, OnOk};
-ghost use Rattle.toml.specs.Data.{no_items};
-ghost use Rattle.toml.specs.View.{view, array_view, table_view};
+ghost use Rattle.std.specs.Prelude.{◌≡◌, ℕ, ◌-◌, ◌<◌, ◌≤◌, [], Some, None, length, string_bytes, IfOk, OnOk};
+ghost use Rattle.toml.specs.Data as values;
+ghost use Rattle.toml.specs.View.{view, table_view};
 ghost use Rattle.toml.specs.Tables as tables;
 ghost use Rattle.toml.specs.Parse as grammar;
 ghost use Rattle.rb_script_read.specs.Front.{Takes, Shortens, values_of};
 
 use rb_script_toml::RunError;
 use std::alloc::{AllocError, AllocFailed, Global};
-use toml::value::Array;
 use toml::{Table, Value};
 use toml_parser::text::{first, skip, skip_blank, skip_ws};
 use toml_parser::{ParseError, Scalar, dotted_key, quoted, starts_string, unquoted};
@@ -42,117 +41,121 @@ impl From<RunError> for NotPlain {
     }
 }
 
-/// A value, with arrays and inline tables at most `depth` deep.
+/// The value that a text begins with, and what stands behind it; arrays and inline tables are at most `depth` deep.
 #[cycle(value)]
-pub fn value(alloc: Global, s: &str, depth: usize) -> Result<(Value, &str), NotPlain>
-    ensures value { Takes view result (grammar.val depth s.now) }
-    ensures shorter { Shortens s.now result }
+pub fn value(alloc: Global, text: &str, depth: usize) -> Result<(Value, &str), NotPlain>
+    ensures value { Takes view result (grammar.val depth text.now) }
+    ensures shorter { Shortens text.now result }
 {
-    let byte = first(s);
-    if byte != b'[' && byte != b'{' {
-        return atom(alloc, s);
+    match first(text) {
+        b'[' => elements(alloc, skip(text, 1), below(depth)?),
+        b'{' => pairs(alloc, skip(text, 1), below(depth)?),
+        _ => single(alloc, text),
     }
-    if depth == 0 {
-        return Err(NotPlain);
-    }
-    if byte == b'[' {
-        let (items, rest) = array(alloc, skip(s, 1), depth - 1)?;
-        Ok((Value::Array(items), rest))
-    } else {
-        let (members, rest) = inline_table(alloc, skip(s, 1), depth - 1)?;
-        Ok((Value::Table(members), rest))
+}
+
+/// How deep what stands in an array or a table may be.
+fn below(depth: usize) -> Result<usize, NotPlain>
+    ensures room { OnOk result (0 < depth) }
+    ensures inner { IfOk result (λ inner. inner ≡ depth - 1) }
+{
+    match depth {
+        0 => Err(NotPlain),
+        _ => Ok(depth - 1),
     }
 }
 
 /// A string, a number, a boolean or a date.
 #[tactic(auto, unfolding(toml::specs::Parse::atom))]
-fn atom(alloc: Global, s: &str) -> Result<(Value, &str), NotPlain>
-    ensures value { Takes view result (grammar.atom s.now) }
-    ensures shorter { Shortens s.now result }
+fn single(alloc: Global, text: &str) -> Result<(Value, &str), NotPlain>
+    ensures value { Takes view result (grammar.atom text.now) }
+    ensures shorter { Shortens text.now result }
 {
-    if starts_string(s) {
-        let (text, rest) = quoted(alloc, s)?;
-        Ok((Value::String(text), rest))
-    } else {
-        let (scalar, rest) = unquoted(alloc, s)?;
-        Ok((scalar_value(scalar), rest))
+    if !starts_string(text) {
+        let (scalar, behind) = unquoted(alloc, text)?;
+        return Ok((of_scalar(scalar), behind));
     }
+    let (string, behind) = quoted(alloc, text)?;
+    Ok((Value::String(string), behind))
 }
 
-fn scalar_value(scalar: Scalar) -> Value
+fn of_scalar(scalar: Scalar) -> Value
     ensures { view result ≡ grammar.scalar_data scalar }
 {
     match scalar {
-        Scalar::Boolean(b) => Value::Boolean(b),
-        Scalar::Integer(n) => Value::Integer(n),
-        Scalar::Float(x) => Value::Float(x),
-        Scalar::Datetime(datetime) => Value::Datetime(datetime),
+        Scalar::Integer(number) => Value::Integer(number),
+        Scalar::Float(number) => Value::Float(number),
+        Scalar::Boolean(is_so) => Value::Boolean(is_so),
+        Scalar::Datetime(moment) => Value::Datetime(moment),
     }
 }
 
+/// The array of the elements up to the closing bracket.
 #[cycle(value)]
-fn array(alloc: Global, s: &str, depth: usize) -> Result<(Array, &str), NotPlain>
-    ensures value { (n : ℕ) → length s.now < n → Takes array_view result (grammar.items (grammar.val depth) n no_items s.now) }
-    ensures shorter { Shortens s.now result }
+fn elements(alloc: Global, text: &str, depth: usize) -> Result<(Value, &str), NotPlain>
+    ensures value { (n : ℕ) → length text.now < n → Takes view result (grammar.read_map values.array (grammar.items (grammar.val depth) n values.no_items text.now)) }
+    ensures shorter { Shortens text.now result }
 {
-    let mut found = Vec::new(alloc);
-    let mut rest = s;
-    'items: loop {
-        let start = skip_blank(rest, true);
-        if first(start) == b']' {
-            return Ok((found, skip(start, 1)));
+    let mut array = Vec::new(alloc);
+    let mut behind = text;
+    'elements: loop {
+        let place = skip_blank(behind, true);
+        if first(place) == b']' {
+            return Ok((Value::Array(array), skip(place, 1)));
         }
-        let (item, after) = value(alloc, start, depth)?;
-        found.push(item)?;
-        rest = after_element(after, b']')?;
+        let (element, end) = value(alloc, place, depth)?;
+        array.push(element)?;
+        behind = after_element(end, b']')?;
     }
 }
 
+/// The table of the pairs up to the closing brace, each of a key without points.
 #[cycle(value)]
-fn inline_table(alloc: Global, s: &str, depth: usize) -> Result<(Table, &str), NotPlain>
-    ensures value { (n : ℕ) → length s.now < n → Takes table_view result (grammar.members (grammar.val depth) n tables.no_nodes s.now) }
-    ensures shorter { Shortens s.now result }
+fn pairs(alloc: Global, text: &str, depth: usize) -> Result<(Value, &str), NotPlain>
+    ensures value { (n : ℕ) → length text.now < n → Takes view result (grammar.read_map values.table (grammar.members (grammar.val depth) n tables.no_nodes text.now)) }
+    ensures shorter { Shortens text.now result }
 {
-    let mut found = Table::new(alloc);
-    let mut rest = s;
-    'members: loop {
-        let start = skip_blank(rest, true);
-        if first(start) == b'}' {
-            return Ok((found, skip(start, 1)));
+    let mut table = Table::new(alloc);
+    let mut behind = text;
+    'pairs: loop {
+        let place = skip_blank(behind, true);
+        if first(place) == b'}' {
+            return Ok((Value::Table(table), skip(place, 1)));
         }
-        let (key, at_value) = plain_key(alloc, start)?;
-        let (member, after) = value(alloc, at_value, depth)?;
-        put(&mut found, key, member)?;
-        rest = after_element(after, b'}')?;
+        let (key, at_value) = plain_key(alloc, place)?;
+        let (held, end) = value(alloc, at_value, depth)?;
+        put(&mut table, key, held)?;
+        behind = after_element(end, b'}')?;
     }
 }
 
-/// After a comma, or at the closing bracket.
+/// Behind the comma after an element, or at the closing bracket.
 #[tactic(auto, unfolding(toml::specs::Parse::after_element))]
-pub fn after_element(s: &str, closing: u8) -> Result<&str, NotPlain>
-    ensures value { IfOk result (λ rest. grammar.after_element closing s.now ≡ Some rest.now) }
-    ensures within { IfOk result (λ rest. length rest.now ≤ length s.now) }
+pub fn after_element(text: &str, closing: u8) -> Result<&str, NotPlain>
+    ensures value { IfOk result (λ rest. grammar.after_element closing text.now ≡ Some rest.now) }
+    ensures within { IfOk result (λ rest. length rest.now ≤ length text.now) }
 {
-    let rest = skip_blank(s, true);
-    if first(rest) == b',' {
-        Ok(skip(rest, 1))
-    } else if first(rest) == closing {
-        Ok(rest)
-    } else {
-        Err(NotPlain)
+    let sign = skip_blank(text, true);
+    if first(sign) == b',' {
+        return Ok(skip(sign, 1));
     }
+    if first(sign) != closing {
+        return Err(NotPlain);
+    }
+    Ok(sign)
 }
 
 /// A key without points, `=` and the white space after it.
-pub fn plain_key(alloc: Global, s: &str) -> Result<(String, &str), NotPlain>
-    ensures key { Takes (λ key. ([], string_bytes key)) result (grammar.key_equals s.now) }
-    ensures shorter { Shortens s.now result }
+pub fn plain_key(alloc: Global, text: &str) -> Result<(String, &str), NotPlain>
+    ensures key { Takes (λ key. ([], string_bytes key)) result (grammar.key_equals text.now) }
+    ensures shorter { Shortens text.now result }
 {
-    let (key, rest) = dotted_key(alloc, s)?;
-    if !key.path.is_empty() || first(rest) != b'=' {
-        return Err(NotPlain);
+    let (key, sign) = dotted_key(alloc, text)?;
+    if first(sign) == b'=' && key.path.is_empty() {
+        Ok((key.last, skip_ws(skip(sign, 1))))
+    } else {
+        Err(NotPlain)
     }
-    Ok((key.last, skip_ws(skip(rest, 1))))
 }
 
 /// Gives a key of a table a value, unless it has one.

@@ -4,33 +4,32 @@ use denote.Shadow.{shadow}
 use Rattle.toml.specs.Data.{no_items}
 use Rattle.toml.specs.View.{array_view, table_view}
 use Rattle.toml.specs.Tables.{no_nodes}
-use Rattle.toml.specs.Parse.{val, items, members}
+use Rattle.toml.specs.Parse as grammar
 use Rattle.rb_script_read.specs.Front.{values_of}
 use Rattle.rb_script_read.proofs.front.+value.Given as goal
 
-abbrev pub decreases-array : goal.decreases-array
-decreases-array l = 2 * l.depth + 2
-
-abbrev pub decreases-inline_table : goal.decreases-inline_table
-decreases-inline_table l = 2 * l.depth + 2
-
 abbrev pub decreases-value : goal.decreases-value
-decreases-value l = 2 * l.depth + 1
+decreases-value v = v.depth * 2 + 1
 
-abbrev pub invariant-array-items : goal.invariant-array-items
-invariant-array-items l =
-    shadow (Utf8 l.rest) × (length l.rest ≤ length l.fn.s)
-    × ((n : ℕ) → length l.fn.s < n → (m : ℕ) × (length l.rest < m)
-    × (items (val l.fn.depth) n no_items l.fn.s ≡ items (val l.fn.depth) m (array_view l.found) l.rest))
+abbrev pub decreases-elements : goal.decreases-elements
+decreases-elements e = e.depth * 2 + 2
 
-abbrev pub decreases-array-items : goal.decreases-array-items
-decreases-array-items l = length l.rest
+abbrev pub decreases-pairs : goal.decreases-pairs
+decreases-pairs p = p.depth * 2 + 2
 
-abbrev pub invariant-inline_table-members : goal.invariant-inline_table-members
-invariant-inline_table-members l =
-    shadow (Utf8 l.rest) × (length l.rest ≤ length l.fn.s)
-    × ((n : ℕ) → length l.fn.s < n → (m : ℕ) × (length l.rest < m)
-    × (members (val l.fn.depth) n no_nodes l.fn.s ≡ members (val l.fn.depth) m (values_of (table_view l.found)) l.rest))
+-- what is left of the text is an end of it, and has the other elements
+abbrev pub invariant-elements-elements : goal.invariant-elements-elements
+invariant-elements-elements e = shadow (Utf8 e.behind) × (length e.behind ≤ length e.fn.text)
+    × ((n : ℕ) → length e.fn.text < n → (left : ℕ) × (length e.behind < left)
+    × (grammar.items (grammar.val e.fn.depth) n no_items e.fn.text ≡ grammar.items (grammar.val e.fn.depth) left (array_view e.array) e.behind))
 
-abbrev pub decreases-inline_table-members : goal.decreases-inline_table-members
-decreases-inline_table-members l = length l.rest
+abbrev pub decreases-elements-elements : goal.decreases-elements-elements
+decreases-elements-elements e = length e.behind
+
+abbrev pub invariant-pairs-pairs : goal.invariant-pairs-pairs
+invariant-pairs-pairs p = shadow (Utf8 p.behind) × (length p.behind ≤ length p.fn.text)
+    × ((n : ℕ) → length p.fn.text < n → (left : ℕ) × (length p.behind < left)
+    × (grammar.members (grammar.val p.fn.depth) n no_nodes p.fn.text ≡ grammar.members (grammar.val p.fn.depth) left (values_of (table_view p.table)) p.behind))
+
+abbrev pub decreases-pairs-pairs : goal.decreases-pairs-pairs
+decreases-pairs-pairs p = length p.behind

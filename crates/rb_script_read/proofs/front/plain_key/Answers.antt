@@ -5,9 +5,9 @@ use Rattle.toml.specs.Parse.{key_equals}
 use Rattle.rb_script_read.proofs.FrontLemmas.{no_path}
 use Rattle.rb_script_read.proofs.front.plain_key.Goals as goal
 
-pub returns-clause-key : goal.returns-clause-key
+pub returns-then-is_empty-clause-key : goal.returns-then-is_empty-clause-key
 unfolding key_equals
-returns-clause-key c =
-    let path = c.in_ok-key.key.path in
-    let none : path_view path.items ≡ [] = no_path path.items (grind (arith, common_steps)) in
+returns-then-is_empty-clause-key c =
+    let parts = c.in_ok-key.key.path.items in
+    let none : path_view parts ≡ [] = no_path parts (grind (arith, common_steps)) in
     rw (c.in_ok-key.ensures.value, none) (search rules)
