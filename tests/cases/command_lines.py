@@ -44,6 +44,7 @@ def command_line_cases():
         report = script.with_suffix(".report").read_bytes()
         yield Case(f"{script.name}, watched", ["plan", str(script)], b"", report, error, 0, is_watched=True)
         yield Case(f"{script.name}, strict and watched", ["run", "--strict", str(script)], b"", report, error, status, is_watched=True)
+    yield Case("one refused event, watched", ["plan", str(ROWS / "bad_vote")], b"", (ROWS / "bad_vote.stdout").read_bytes(), counted.replace(b"3", b"1"), 0, is_watched=True)
     yield from message_cases()
     yield from setup_cases()
     setup, answers, certificate = str(EXAMPLES / "import" / "setup.toml"), str(EXAMPLES / "import" / "answers"), str(EXAMPLES / "smallest.certificate")

@@ -13,6 +13,7 @@ from lib.script_text import LATER, a_set, chains, client, goal, header, members,
 
 SVG = "{http://www.w3.org/2000/svg}"
 NOT_SEARCHED = "not searched, since that takes long for so many turns and clients (--turn, --client)"
+NEEDED = 'votes = "needed"\n'
 MOST_UPDATES, MOST_OTHERS, MOST_REFUSED = 12, 10, 3  # so many arcs of a plan, of a bisection, and to a height out of reach are drawn
 EXPLAIN_WORDS = (
     (["--turn", "9"], b"error: invalid value '9' for '--turn <N>': the last turn of standard input is 4\n"),
@@ -104,11 +105,13 @@ def whole_cases():
 
 
 def unsearched_cases():
-    """A plan beside which the fewest updates have to be searched, in the last of 25 turns: for one turn they are, for all they are left out."""
+    """Plans beside which the fewest updates have to be searched, in the last of 25 turns: for one turn they are, for all they are left out, but for a client with a small light store."""
     sets = [a_set("s", members([0])), a_set("t", members([1])), a_set("large", members(range(50))), *(a_set(f"u{number}", members([number])) for number in range(2, 1002))]
     events = [*sets, stored("c", 1), header(2, "C", "s", "t"), header(3, "C", "t", "t"), *(header(height, "C" * 50, "large", "large") for height in range(4, 8))]
-    turns = "".join(turn(LATER, events if number == 1 else [], [goal("c", 3, "exactly")] if number == 25 else []) for number in range(1, 26))
-    given = (chains(2, 3) + client("c", "a1", "a0") + 'votes = "needed"\n' + turns).encode()
+    events += [a_set("s", members([0]), "a1"), a_set("t", members([1]), "a1"), a_set("large", members(range(50)), "a1"), stored("d", 1)]
+    events += [header(2, "C", "s", "t", "a1"), header(3, "C", "t", "t", "a1"), header(4, "C" * 50, "large", "large", "a1")]
+    turns = "".join(turn(LATER, events if number == 1 else [], [goal(name, 3, "exactly") for name in "cd"] if number == 25 else []) for number in range(1, 26))
+    given = (chains(2, 3) + client("c", "a1", "a0") + NEEDED + client("d", "a0", "a1") + NEEDED + turns).encode()
     value = explain.value_of(reference.read_script(given))
     last = chosen(value, 25)
     fewest = f"  fewest updates: {NOT_SEARCHED}\n"
@@ -116,9 +119,12 @@ def unsearched_cases():
     texts[0] = "".join(fewest if line.startswith("  fewest updates: ") else line for line in texts[0].splitlines(keepends=True))
     yield Case("the fewest updates of one turn", ["explain", "--last", "-"], given, texts[1].encode(), b"", 0)
     yield Case("the fewest updates of 25 turns", ["explain", "-"], given, texts[0].encode(), b"", 0)
+    small = explain.text_of(chosen(value, client="d"))
+    yield Case("the fewest updates of a small light store beside a large one", ["explain", "--client", "d", "-"], given, small.encode(), b"", 0)
     yield Case("the fewest updates of one turn as JSON", ["explain", "--json", "--last", "-"], given, last, b"", 0, reader=read_json)
     value = json.loads(json.dumps(value))
-    value["turns"][-1]["clients"][0]["fewest"] = None
+    for each in value["turns"][-1]["clients"]:
+        each["fewest"] = None
     yield Case("the fewest updates of 25 turns as JSON", ["explain", "--json", "-"], given, value, b"", 0, reader=read_json)
 
 

@@ -284,6 +284,7 @@ CHANGES = [
     (written(COMMIT_FILE, "[" + "1," * 1_199_999 + "0]"), "refused UnknownShape at -", 1, [COMMIT_FILE]),
     (padded(COMMIT_FILE, 2**24 + 1), "refused TooBig at -", 1, [f"{COMMIT_FILE}: an answer has at most 16,777,216 bytes; ask for fewer of them on a page (per_page=20)\n"]),
     (written("hub-4/status.json", "{}"), "refused UnknownShape at -", 1, ["hub-4/status.json"]),
+    (edited(STATE_FILE, put(f"{STATE}.@type", "/ibc.lightclients.wasm.v1.ClientState")), f"refused UnsupportedClient at {STATE}.@type", 1, ['; this one is "/ibc.lightclients.wasm.v1.ClientState"\n']),
     (written("hub-on-zone/gateway.json", '{"code": 5, "message": "client not found", "details": []}'), "refused NodeError at -", 1, [f'gateway.json: {ADVICE}; it said "client not found"\n']),
     (edited(COMMIT_FILE, put("error", {"code": -32603, "message": "Internal error", "data": "height 80 is not available, lowest height is 100"})),
      "refused NodeError at -", 1, [f'{COMMIT_FILE}: {ADVICE}; it said "Internal error: height 80 is not available, lowest height is 100"\n']),
