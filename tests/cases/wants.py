@@ -98,6 +98,22 @@ def want_cases(top):
     filled(folder, chain, second + first)
     (folder / "hub-4" / "validators-53-1.json").rename(folder / "hub-4" / "validators-53-1.refused")
     yield Case("want, the next set refused", ["want", str(setup), str(folder)], b"", b"", f"end {CLIENT}: nothing goes on from 52: 99 not judged: the node doesn't give its header, its validators or those of 53\n".encode(), 0)
+    for name, error, status in ("hub-4", b"device\n", 4), ("zone-1", b"", 0):  # no client tracks the second
+        folder = top / f"want-file-{name}"
+        filled(folder, chain, second)
+        shutil.rmtree(folder / name, ignore_errors=True)
+        (folder / name).write_text("")
+        output = b"" if status else (first + why + "nothing judged yet\n").encode()
+        yield Case(f"want, a file in the place of the folder of {name}", ["want", str(setup), str(folder)], b"", output, error, status)
+    folder, path = top / "want-revision", top / "want-revision.toml"
+    filled(folder, chain, second)
+    states = folder / CLIENT / "consensus_states-1.json"
+    held = json.loads(states.read_text())
+    held["consensus_states"].append(held["consensus_states"][0] | {"height": {"revision_number": "3", "revision_height": "35"}})
+    states.write_text(json.dumps(held))
+    path.write_text(setup_of(chain, "exactly = 40"))
+    asked = validators(31) + commit(40) + validators(40) + f"why {CLIENT} from 30: nothing judged yet\n"
+    yield Case("want, a record of an earlier revision", ["want", str(path), str(folder)], b"", asked.encode(), b"", 0)
     folder = top / "want-frozen"
     filled(folder, chain, whole)
     state = folder / CLIENT / "client_state.json"
