@@ -44,7 +44,7 @@ pub struct Header {
 
 /// The header's hash: the tree hash of its fourteen fields, each in its encoding.
 #[tactic(auto, unfolding(crate::specs::HeaderHash::header_hash))]
-pub fn hash(alloc: Global, header: &Header) -> Result<[u8; 32], AllocError>
+pub fn header_hash(alloc: Global, header: &Header) -> Result<[u8; 32], AllocError>
     ensures { IfOk result (λ hash. hash ≡ header_hash (header_view header.now)) }
 {
     let version = encode_version(alloc, header)?;

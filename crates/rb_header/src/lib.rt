@@ -5,4 +5,4 @@ mod encoding;
 mod header;
 pub mod laws;
 
-pub use header::{BlockId, Header, HeaderBytes, hash};
+pub use header::{BlockId, Header, HeaderBytes, header_hash};

@@ -130,7 +130,7 @@ pub(crate) fn read_commit(alloc: Global, answer: &Object<'_>) -> Result<SignedHe
     let fields = read_header_fields(alloc, &head)?;
     let proposer = head.address(Key::ProposerAddress)?;
     judge_height(&commit, fields.height)?;
-    let hash = rb_header::hash(alloc, &fields)?;
+    let hash = rb_header::header_hash(alloc, &fields)?;
     let signatures = signatures_of(alloc, votes.as_slice())?;
     Ok(SignedHeader {
         chain: fields.chain,

@@ -28,7 +28,7 @@ const INITIAL_HASH: [u32; 5] = [
 
 /// The digest of a message.
 #[tactic(auto, unfolding(crate::specs::Ripemd::ripemd160))]
-pub fn hash(message: &[u8]) -> [u8; DIGEST]
+pub fn ripemd160(message: &[u8]) -> [u8; DIGEST]
     ensures { result ≡ ripemd160 message.now }
 {
     let (blocks, rest) = message.split_at(message.len() / BLOCK * BLOCK);

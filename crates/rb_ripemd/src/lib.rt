@@ -4,4 +4,4 @@
 mod digest;
 mod line;
 
-pub use digest::hash;
+pub use digest::ripemd160;

@@ -1,7 +1,7 @@
 use crate::merkle::to_hex;
 use crate::same::assert_same;
 use rb_base::{ChainId, Height, Moment};
-use rb_header::{BlockId, Header, HeaderBytes, hash};
+use rb_header::{BlockId, Header, HeaderBytes, header_hash};
 use sha2::{Digest, Sha256};
 use std::alloc::{AllocError, Global};
 use std::process::Abort;
@@ -68,7 +68,7 @@ fn check_hash(
     header: &Header,
     wanted: &str,
 ) -> Result<(), AllocError> {
-    let found = hash(alloc, header)?;
+    let found = header_hash(alloc, header)?;
     let text = to_hex(alloc, found.as_slice())?;
     assert_same(rt, "hash", text.as_str(), wanted);
     Ok(())
