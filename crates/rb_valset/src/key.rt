@@ -38,7 +38,7 @@ impl PublicKey {
             }
             PublicKey::Secp256k1(bytes) => {
                 let digest = Sha256::digest(bytes.as_slice());
-                rb_ripemd::ripemd160(digest.as_slice())
+                crate::ripemd160(digest.as_slice())
             }
         }
     }

@@ -36,7 +36,7 @@ fn check_digest(
     message: &[u8],
     wanted: &str,
 ) -> Result<(), AllocError> {
-    let digest = to_hex(alloc, rb_ripemd::ripemd160(message).as_slice())?;
+    let digest = to_hex(alloc, rb_valset::ripemd160(message).as_slice())?;
     assert_same(rt, &message.len(), digest.as_str(), wanted);
     Ok(())
 }

@@ -3,8 +3,8 @@ use Rattle.std.proofs.Common.{◌≡◌, ℕ, suc, ◌+◌, ◌<◌, List, lengt
 use Rattle.std.specs.Prelude.{nat_lt}
 use Rattle.std.proofs.lemmas.Bool.{ltb-true}
 use Rattle.std.proofs.lemmas.List.Sums.{AllPass-from_list_all}
-use Rattle.rb_ripemd.specs.declared.line.Line.{Line}
-use Rattle.rb_ripemd.specs.Ripemd.{after, are_places, step}
+use Rattle.rb_valset.specs.declared.ripemd_line.Line.{Line}
+use Rattle.rb_valset.specs.Ripemd.{after, are_places, step}
 
 pub place-below : (ps : List ℕ) (j : ℕ) → are_places ps ≡ true → j < length ps → slice_index ps j < 16
 place-below ps j places within = ltb-true _ 16 (AllPass-from_list_all (λ p. nat_lt p 16) ps places j 0 within)

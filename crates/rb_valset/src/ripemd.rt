@@ -1,8 +1,8 @@
 //! The digest of a message.
 ghost use Rattle.std.specs.Prelude.{◌≡◌, ◌/◌, ◌%◌, ◌++◌, length};
-ghost use Rattle.rb_ripemd.specs.Ripemd.{compress, digest_bytes, hash_after, padding, ripemd160};
+ghost use Rattle.rb_valset.specs.Ripemd.{compress, digest_bytes, hash_after, padding, ripemd160};
 
-use crate::line::{LEFT, RIGHT, line_after};
+use crate::ripemd_line::{LEFT, RIGHT, line_after};
 use arrayvec::ArrayVec;
 
 /// The bytes of a block.

@@ -1,7 +1,7 @@
 use Rattle.std.proofs.Common.{refl, ◌∙◌}
-use Rattle.rb_ripemd.specs.Ripemd.{after}
-use Rattle.rb_ripemd.proofs.Lines.{after-more}
-use Rattle.rb_ripemd.proofs.line.line_after.Goals as goal
+use Rattle.rb_valset.specs.Ripemd.{after}
+use Rattle.rb_valset.proofs.RipemdLines.{after-more}
+use Rattle.rb_valset.proofs.ripemd_line.line_after.Goals as goal
 
 pub loop-number-init : goal.loop-number-init
 unfolding after

@@ -1,7 +1,7 @@
 use Rattle.std.proofs.Common.{◌≡◌, ◌+◌, ◌-◌, ◌*◌, ℕ, drop, take, refl, ap, ◌∙◌, arith}
-use Rattle.rb_ripemd.specs.Ripemd.{compress, hash_after}
-use Rattle.rb_ripemd.proofs.Blocks.{hash_after-more}
-use Rattle.rb_ripemd.proofs.digest.take_blocks.Goals as goal
+use Rattle.rb_valset.specs.Ripemd.{compress, hash_after}
+use Rattle.rb_valset.proofs.RipemdBlocks.{hash_after-more}
+use Rattle.rb_valset.proofs.ripemd.take_blocks.Goals as goal
 
 pub loop-place-init : goal.loop-place-init
 unfolding hash_after

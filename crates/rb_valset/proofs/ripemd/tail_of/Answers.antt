@@ -1,6 +1,6 @@
 use Rattle.std.proofs.Common.{◌≡◌, [], ◌∷◌, ◌-◌, ◌*◌, ◌%◌, ◌^◌, ◌++◌, List, ℕ, length, take, replicate, refl, ap, ◌∙◌}
-use Rattle.rb_ripemd.proofs.Blocks.{padding-behind}
-use Rattle.rb_ripemd.proofs.digest.tail_of.Goals as goal
+use Rattle.rb_valset.proofs.RipemdBlocks.{padding-behind}
+use Rattle.rb_valset.proofs.ripemd.tail_of.Goals as goal
 
 pub returns : goal.returns
 returns c =

@@ -1,6 +1,6 @@
 //! The two lines of steps that a block goes through.
 ghost use Rattle.std.specs.Prelude.{◌≡◌, ◌*◌, ◌<◌, length, IsTrue};
-ghost use Rattle.rb_ripemd.specs.Ripemd.{after, are_places, mix, step, word_at};
+ghost use Rattle.rb_valset.specs.Ripemd.{after, are_places, mix, step, word_at};
 
 /// A line: for each of its steps the word that it takes and by how much it rotates, for each of its
 /// five rounds of 16 steps its function and its constant.
