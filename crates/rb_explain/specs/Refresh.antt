@@ -3,7 +3,7 @@ use Rattle.std.specs.Prelude.{◌≡◌, ℕ, ◌==◌, Bool, false, not, ◌&&�
 use Rattle.std.specs.Option.{option_map_or}
 use Rattle.rb_book.specs.Header.{Record}
 use Rattle.rb_plan_client.specs.Task.{Task, is_due, newest_stored, newer_height, terms_of}
-use Rattle.rb_plan_refresh.specs.Refresh.{is_urgent}
+use Rattle.rb_plan_types.specs.Refresh.{is_urgent}
 use Rattle.rb_script_types.specs.declared.config.RefreshTo.{RefreshTo}
 use Rattle.rb_script_types.specs.declared.config.RefreshTo.TheVariants.{Lowest, Highest, Newer}
 use Rattle.rb_super_turn.specs.Report.{Outcome, held, idle, planned}

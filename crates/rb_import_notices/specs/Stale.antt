@@ -2,8 +2,8 @@
 use Rattle.std.specs.Prelude.{◌+◌, ◌-◌, ◌/◌, ◌==◌, ◌&&◌, nat_le, ℕ, Bool, false, not, is_some, if◌then◌else◌, List, Option, Some, None, length, slice_get, unwrap_or}
 use Rattle.std.specs.List.{list_all}
 use Rattle.rb_base.specs.Window.{Span}
-use Rattle.rb_plan_refresh.specs.declared.terms.Terms.{Terms}
-use Rattle.rb_plan_refresh.specs.Refresh.{needed_time}
+use Rattle.rb_plan_types.specs.declared.terms.Terms.{Terms}
+use Rattle.rb_plan_types.specs.Refresh.{needed_time}
 use Rattle.rb_import_setup.specs.declared.setup.ClientSetup.{ClientSetup}
 use Rattle.rb_import_setup.specs.declared.setup.Setup.{Setup}
 use Rattle.rb_import_setup.specs.declared.setup.TurnSetup.{TurnSetup}

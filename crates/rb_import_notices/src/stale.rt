@@ -7,7 +7,7 @@ use rb_base::{Moment, Window};
 use rb_import_check::{Commit, SeenClient, Stored};
 use rb_import_merge::Seen;
 use rb_import_setup::{ClientSetup, Setup};
-use rb_plan_refresh::{Terms, needed_time};
+use rb_plan_types::{Terms, needed_time};
 
 /// The client at a place, where it is due for a refresh by the end of its window in the last turn, and no header serves.
 pub fn nothing_fresh(setup: &Setup, seen: &Seen<'_>, client: usize) -> Option<Notice>

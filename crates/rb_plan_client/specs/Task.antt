@@ -11,8 +11,8 @@ use Rattle.rb_script_types.specs.declared.config.RefreshTo.{RefreshTo}
 use Rattle.rb_script_types.specs.declared.config.RefreshTo.TheVariants.{Lowest, Highest, Newer}
 use Rattle.rb_script_types.specs.declared.goal.Goal.{Goal}
 use Rattle.rb_script_types.specs.declared.goal.Goal.TheVariants.{AtLeast, Exactly}
-use Rattle.rb_plan_refresh.specs.Refresh.{needed_time, refresh_moment as moment_of_refresh}
-use Rattle.rb_plan_refresh.specs.declared.terms.Terms.{Terms}
+use Rattle.rb_plan_types.specs.Refresh.{needed_time, refresh_moment as moment_of_refresh}
+use Rattle.rb_plan_types.specs.declared.terms.Terms.{Terms}
 use Rattle.rb_scan.specs.Going.{can_go, going}
 use Rattle.rb_scan.specs.Owed.{ready, ready_beyond, wanted}
 use Rattle.rb_scan.specs.declared.bars.Bars.{Bars}

@@ -11,7 +11,7 @@ use crate::message::Message;
 use crate::next::greater;
 use rb_base::Height;
 use rb_book::{Record, RecordAt};
-use rb_plan_refresh::{Terms, needed_time};
+use rb_plan_types::{Terms, needed_time};
 use rb_script_types::{Goal, RefreshTo};
 use std::alloc::Allocator;
 

@@ -14,8 +14,7 @@ use crate::planned::Planned;
 use crate::waiting::{earlier, first_beyond, lesser};
 use rb_base::{Height, Moment};
 use rb_book::Record;
-use rb_plan_refresh::refresh_moment as moment_of_refresh;
-use rb_plan_types::{Update, proof_height};
+use rb_plan_types::{Update, proof_height, refresh_moment as moment_of_refresh};
 use rb_script_types::RefreshTo;
 use std::alloc::{AllocError, Allocator};
 

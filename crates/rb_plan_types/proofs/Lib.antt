@@ -1,16 +1,18 @@
-pub mod Values
-pub mod Costs
-pub mod Orders
-pub mod Routes
 pub mod Bounds
-pub mod Least
-pub mod Exact
-pub mod Converse
-pub mod Lookups
 pub mod Cheapest
-pub mod Raise
+pub mod Converse
+pub mod Costs
+pub mod Exact
 pub mod Existence
-pub mod Search
-pub mod Views
-pub mod Tops
+pub mod Least
+pub mod Lookups
+pub mod Orders
 pub mod OverViews
+pub mod Raise
+pub mod Routes
+pub mod Search
+pub mod Tops
+pub mod Values
+pub mod Views
+mod Alive
+mod Seldom

@@ -13,10 +13,10 @@ use Rattle.rb_script_types.specs.declared.config.ClientConfig.{ClientConfig}
 use Rattle.rb_script_types.specs.declared.config.RefreshTo.TheVariants.{Newer}
 use Rattle.rb_step.specs.LightClient.{Update, Client, IsAcceptable, Leaves}
 use Rattle.rb_step.specs.View.{IsView, client_of}
-use Rattle.rb_plan_refresh.specs.Laws.{RefreshIsInReach, KeptAlive as AliveByTheRule}
-use Rattle.rb_plan_refresh.specs.Refresh.{needed_time}
-use Rattle.rb_plan_refresh.specs.Turns.{IsLive}
-use Rattle.rb_plan_refresh.specs.declared.terms.Terms.{Terms}
+use Rattle.rb_plan_types.specs.RefreshLaws.{RefreshIsInReach, KeptAlive as AliveByTheRule}
+use Rattle.rb_plan_types.specs.Refresh.{needed_time}
+use Rattle.rb_plan_types.specs.Turns.{IsLive}
+use Rattle.rb_plan_types.specs.declared.terms.Terms.{Terms}
 use Rattle.rb_plan_client.specs.Draft.{Plan, Planned, IsAnswer, planned_updates}
 use Rattle.rb_plan_client.specs.Reach.{IsReach, IsReachable}
 use Rattle.rb_plan_client.specs.Task.{Task, view_of, newest_stored, reach_record, terms_of}

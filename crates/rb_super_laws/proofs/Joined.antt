@@ -22,8 +22,8 @@ use Rattle.rb_script_types.specs.declared.config.RefreshTo.TheVariants.{Newer}
 use Rattle.rb_script_types.specs.declared.goal.Goal.{Goal}
 use Rattle.rb_script_types.specs.declared.goal.Goal.TheVariants.{AtLeast, Exactly}
 use Rattle.rb_step.specs.View.{IsView, IsLive, client_of}
-use Rattle.rb_plan_refresh.specs.Laws.{RefreshIsInReach}
-use Rattle.rb_plan_refresh.specs.Refresh.{needed_time}
+use Rattle.rb_plan_types.specs.RefreshLaws.{RefreshIsInReach}
+use Rattle.rb_plan_types.specs.Refresh.{needed_time}
 use Rattle.rb_plan_client.specs.Draft.{Plan, Planned, IsPlan, IsAnswer}
 use Rattle.rb_plan_client.specs.Reach.{IsReach, IsReachable}
 use Rattle.rb_plan_client.specs.Task.{Task, Message, view_of, message_on, going_on, ready_on, ready_messages, is_live, near_reach, presses, sending_reach, due_messages, wanted_height, newest_stored, terms_of, reach_record, gain_time, newer_height, asked_in_reach, joined_goal, goal_by, goal_of, messages_of}

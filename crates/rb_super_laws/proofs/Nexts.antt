@@ -22,8 +22,8 @@ use Rattle.rb_script_types.specs.declared.goal.Goal.TheVariants.{AtLeast}
 use Rattle.rb_plan_types.specs.ProofHeight.{IsProofHeight}
 use Rattle.rb_step.specs.LightClient.{Leaves}
 use Rattle.rb_step.specs.View.{IsView, IsLive, client_of}
-use Rattle.rb_plan_refresh.specs.Laws.{NextRefresh, RefreshIsInReach}
-use Rattle.rb_plan_refresh.specs.Refresh.{needed_time, refresh_moment as moment_of_refresh}
+use Rattle.rb_plan_types.specs.RefreshLaws.{NextRefresh, RefreshIsInReach}
+use Rattle.rb_plan_types.specs.Refresh.{needed_time, refresh_moment as moment_of_refresh}
 use Rattle.rb_plan_client.proofs.Nexts.{neither, unmapped, none_wanted, none_first}
 use Rattle.rb_plan_client.proofs.Waits.{near_is as near_stored}
 use Rattle.rb_plan_client.specs.Laws.{in_window, NextIsNext as NextByAge}

@@ -5,7 +5,7 @@ use Rattle.std.specs.Option.{option_map, option_or}
 use Rattle.std.proofs.lemmas.List.Elements.{All-from_recursion}
 use Rattle.std.proofs.lemmas.Option.{none-some}
 use Rattle.rb_book.specs.Invariant.{IsBook}
-use Rattle.rb_plan_refresh.specs.Laws.{RefreshIsInReach}
+use Rattle.rb_plan_types.specs.RefreshLaws.{RefreshIsInReach}
 use Rattle.rb_scan.specs.Laws.{AllGoAlong}
 use Rattle.rb_scan.specs.Owed.{ready, ready_beyond, wanted}
 use Rattle.rb_scan.specs.declared.message.PacketMsg.{PacketMsg}

@@ -11,8 +11,8 @@ use Rattle.rb_script_types.specs.declared.config.RefreshTo.TheVariants.{Newer}
 use Rattle.rb_script_types.specs.declared.goal.Goal.TheVariants.{AtLeast}
 use Rattle.rb_step.specs.LightClient.{Update, Client, IsStoredAfter}
 use Rattle.rb_step.specs.View.{IsView, IsLive, client_of}
-use Rattle.rb_plan_refresh.specs.Laws.{RefreshIsInReach}
-use Rattle.rb_plan_refresh.specs.Refresh.{needed_time}
+use Rattle.rb_plan_types.specs.RefreshLaws.{RefreshIsInReach}
+use Rattle.rb_plan_types.specs.Refresh.{needed_time}
 use Rattle.rb_plan_client.specs.Draft.{Plan, Planned, IsAnswer, planned_updates}
 use Rattle.rb_plan_client.specs.Reach.{IsReach}
 use Rattle.rb_plan_client.specs.Task.{Task, view_of, newest_stored, terms_of, reach_record, newer_height}

@@ -25,8 +25,8 @@ use Rattle.rb_script_types.specs.declared.goal.Goal.TheVariants.{AtLeast}
 use Rattle.rb_step.specs.Fee.{fee_of}
 use Rattle.rb_step.specs.LightClient.{Update, Client, IsAcceptable, IsStoredAfter, Leaves}
 use Rattle.rb_step.specs.View.{IsView, IsLive, client_of}
-use Rattle.rb_plan_refresh.specs.Refresh.{needed_time, refresh_moment as moment_of_refresh}
-use Rattle.rb_plan_refresh.specs.declared.terms.Terms.{Terms}
+use Rattle.rb_plan_types.specs.Refresh.{needed_time, refresh_moment as moment_of_refresh}
+use Rattle.rb_plan_types.specs.declared.terms.Terms.{Terms}
 use Rattle.rb_plan_types.specs.ProofHeight.{IsProofHeight}
 use Rattle.rb_plan_client.specs.Reach.{IsReach}
 use Rattle.rb_plan_client.specs.Task.{PathTask, Task, Message, view_of, message_on, bars_of, going_by, going_on, ready_on, ready_messages, too_big_by, too_big_on, too_big_messages, is_live, near_reach, since, press_moment, moments_beyond, first_beyond, first_press, sending_reach, due_messages, wanted_height, newest_stored, is_due, is_fresh, lowest_fresh, fresh_reach, terms_of, reach_record, gain_time, newer_height, refresh_height, refresh_goal, is_apart_by, is_apart, greater, asked_in_reach, joined_goal, goal_by, goal_of, messages_by, messages_of, newest_after, is_overtaken, refresh_moment, if_later, no_earlier, gain_moment, next_by, next_moment, gas_of, gases}

@@ -11,7 +11,7 @@ use Rattle.std.proofs.lemmas.Option.{same_Some, slice_get-get_or, slice_get_with
 use Rattle.rb_book.specs.Book.{height_of, time_of, record_at}
 use Rattle.rb_book.specs.Header.{Record}
 use Rattle.rb_book.proofs.Rising.{Up-from_increasing}
-use Rattle.rb_plan_refresh.specs.Laws.{RefreshIsInReach}
+use Rattle.rb_plan_types.specs.RefreshLaws.{RefreshIsInReach}
 use Rattle.rb_plan_types.specs.Goal.{Meets}
 use Rattle.rb_plan_types.specs.Least.{IsUnreachable}
 use Rattle.rb_scan.specs.Owed.{same_kind, run_end, is_ready, is_near, ready, ready_beyond}

@@ -5,8 +5,8 @@ use Rattle.std.specs.Option.{option_map_or, option_or}
 use Rattle.rb_book.specs.Header.{Record}
 use Rattle.rb_script_types.specs.declared.config.ClientConfig.{ClientConfig}
 use Rattle.rb_script_types.specs.declared.config.RefreshTo.TheVariants.{Newer}
-use Rattle.rb_plan_refresh.specs.Turns.{Turns, IsLive, FollowsRule, WouldExpire, CanBeKept}
-use Rattle.rb_plan_refresh.specs.declared.terms.Terms.{Terms}
+use Rattle.rb_plan_types.specs.Turns.{Turns, IsLive, FollowsRule, WouldExpire, CanBeKept}
+use Rattle.rb_plan_types.specs.declared.terms.Terms.{Terms}
 use Rattle.rb_plan_client.specs.Task.{newest_stored, reach_record}
 use Rattle.rb_super_turn.specs.Report.{PricedUpdate, PlanReport, Outcome, held, idle, planned, Report}
 use Rattle.rb_super_turn.specs.Script.{Script}

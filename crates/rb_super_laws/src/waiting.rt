@@ -12,7 +12,7 @@ ghost use Rattle.rb_super_laws.specs.Updates.{PressingUpdates};
 
 use crate::laws::planned_views_are_views;
 use rb_book::laws::stays_a_book;
-use rb_plan_refresh::laws::{next_refresh, refresh_is_in_reach};
+use rb_plan_types::refresh_laws::{next_refresh, refresh_is_in_reach};
 use rb_scan::laws::{all_go_along, settled_is_not_owed};
 
 /// In each turn of a script whose messages may not wait all messages that are ready for a client that is refreshed by
@@ -116,7 +116,7 @@ pub fn pressing_updates()
 }
 
 /// The turns of a client that is refreshed by gain follow the rule on refreshes, by what its turns report: so all laws of
-/// refreshes hold of them (`rb_plan_refresh::laws`).
+/// refreshes hold of them (`rb_plan_types::refresh_laws`).
 pub fn turns_follow_the_rule()
     ensures { TurnsFollowTheRule }
 {
@@ -132,6 +132,6 @@ pub fn turns_follow_the_rule()
 pub fn kept_alive()
     ensures { KeptAlive }
 {
-    rb_plan_refresh::laws::kept_alive();
+    rb_plan_types::refresh_laws::kept_alive();
     turns_follow_the_rule();
 }

@@ -1,6 +1,6 @@
 //! The time that a refresh needs.
 ghost use Rattle.std.specs.Prelude.{◌≡◌};
-ghost use Rattle.rb_plan_refresh.specs.Refresh.{urgent_age, urgent_gain, is_newer_by_half, is_due, needed_time, refresh_moment};
+ghost use Rattle.rb_plan_types.specs.Refresh.{urgent_age, urgent_gain, is_newer_by_half, is_due, needed_time, refresh_moment};
 
 use crate::terms::Terms;
 use rb_base::Moment;

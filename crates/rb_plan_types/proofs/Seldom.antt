@@ -5,9 +5,9 @@ use Rattle.std.specs.List.{range_with_len}
 use Rattle.std.proofs.lemmas.Bool.{cases_Bool, and_parts, not-true, ltb-true, ltb-false, leb-true, false≢true}
 use Rattle.std.proofs.lemmas.List.Sums.{sum_by-cons}
 use Rattle.std.proofs.Math.Nat.{mul-suc, suc-mul, mul-le-mul_right}
-use Rattle.rb_plan_refresh.specs.declared.terms.Terms.{Terms}
-use Rattle.rb_plan_refresh.specs.Refresh.{urgent_gain, is_due, is_urgent, needed_time}
-use Rattle.rb_plan_refresh.specs.Turns.{Turns, IsLive, FollowsRule, IsWithinReach, IsKeptAlive, LagsBy, is_refresh, refreshes, is_calm_refresh, calm_refreshes, least_win, updates}
+use Rattle.rb_plan_types.specs.declared.terms.Terms.{Terms}
+use Rattle.rb_plan_types.specs.Refresh.{urgent_gain, is_due, is_urgent, needed_time}
+use Rattle.rb_plan_types.specs.Turns.{Turns, IsLive, FollowsRule, IsWithinReach, IsKeptAlive, LagsBy, is_refresh, refreshes, is_calm_refresh, calm_refreshes, least_win, updates}
 
 -- a count over so many numbers from one on is the first's and that of the others
 count_here : (p : ℕ → Bool) (from n : ℕ) → p from ≡ true → count_by p (range_with_len from (suc n)) ≡ suc (count_by p (range_with_len (from + 1) n))

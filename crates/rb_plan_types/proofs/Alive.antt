@@ -2,9 +2,9 @@
 use Rattle.std.proofs.Common.{◌≡◌, ℕ, zero, suc, ◌+◌, ◌<◌, ◌≤◌, ◌⊎◌, inl, inr, subst, arith}
 use Rattle.std.specs.Prelude.{Some, IfSome}
 use Rattle.std.proofs.lemmas.Bool.{cases_lt}
-use Rattle.rb_plan_refresh.specs.declared.terms.Terms.{Terms}
-use Rattle.rb_plan_refresh.specs.Refresh.{urgent_age, urgent_gain, needed_time}
-use Rattle.rb_plan_refresh.specs.Turns.{Turns, IsLive, FollowsRule, WouldExpire, CanBeKept}
+use Rattle.rb_plan_types.specs.declared.terms.Terms.{Terms}
+use Rattle.rb_plan_types.specs.Refresh.{urgent_age, urgent_gain, needed_time}
+use Rattle.rb_plan_types.specs.Turns.{Turns, IsLive, FollowsRule, WouldExpire, CanBeKept}
 
 -- of an old state, one in reach is needed that is newer by so much
 old_needs : (t : Terms) (stored reach until : ℕ) → 0 < t.refresh → stored + urgent_age t ≤ until → stored + urgent_gain t < reach → needed_time t stored reach until ≡ Some reach

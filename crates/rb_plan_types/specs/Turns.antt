@@ -1,8 +1,8 @@
 -- A client from turn to turn.
 use Rattle.std.specs.Prelude.{◌≡◌, ℕ, ◌+◌, ◌-◌, ◌/◌, ◌<◌, ◌≤◌, nat_lt, min, max, Bool, false, not, ◌&&◌, IfSome, is_some, count_by}
 use Rattle.std.specs.List.{range_with_len}
-use Rattle.rb_plan_refresh.specs.declared.terms.Terms.{Terms}
-use Rattle.rb_plan_refresh.specs.Refresh.{urgent_age, urgent_gain, is_urgent, is_due, needed_time}
+use Rattle.rb_plan_types.specs.declared.terms.Terms.{Terms}
+use Rattle.rb_plan_types.specs.Refresh.{urgent_age, urgent_gain, is_urgent, is_due, needed_time}
 
 -- what turns tell, numbered from 0: when the window ends, the time of the greatest height that the client can be brought to, and whether
 -- an open batch holds the client

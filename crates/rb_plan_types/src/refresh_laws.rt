@@ -1,5 +1,5 @@
 //! Laws of refreshes, over the definitions alone.
-ghost use Rattle.rb_plan_refresh.specs.Laws.{KeptAlive, RefreshesAreSeldom, FewBesideTheLeast, NextRefresh, RefreshIsInReach};
+ghost use Rattle.rb_plan_types.specs.RefreshLaws.{KeptAlive, RefreshesAreSeldom, FewBesideTheLeast, NextRefresh, RefreshIsInReach};
 
 /// A client never expires, if it can be kept in each turn after which it would: the next turn comes within a third of its
 /// period, no batch holds it, and a height is in reach that is live in the next turn and a little longer.

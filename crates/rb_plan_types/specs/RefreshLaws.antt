@@ -1,8 +1,8 @@
 -- Laws of refreshes, over every client and every run of turns.
 use Rattle.std.specs.Prelude.{◌≡◌, ℕ, ◌+◌, ◌-◌, ◌*◌, ◌/◌, ◌<◌, ◌≤◌, true, Some, None, IfSome, is_some}
-use Rattle.rb_plan_refresh.specs.declared.terms.Terms.{Terms}
-use Rattle.rb_plan_refresh.specs.Refresh.{urgent_gain, needed_time, refresh_moment}
-use Rattle.rb_plan_refresh.specs.Turns.{Turns, IsLive, FollowsRule, IsWithinReach, WouldExpire, CanBeKept, LagsBy, IsKeptAlive, calm_refreshes, refreshes, least_win, updates}
+use Rattle.rb_plan_types.specs.declared.terms.Terms.{Terms}
+use Rattle.rb_plan_types.specs.Refresh.{urgent_gain, needed_time, refresh_moment}
+use Rattle.rb_plan_types.specs.Turns.{Turns, IsLive, FollowsRule, IsWithinReach, WouldExpire, CanBeKept, LagsBy, IsKeptAlive, calm_refreshes, refreshes, least_win, updates}
 
 -- a client that is live in the first turn is live in every turn, if it can be kept in each turn after which it would expire: none other
 -- matters

@@ -1,6 +1,6 @@
 -- When and how high a client is refreshed (own choice). Times are in nanoseconds.
 use Rattle.std.specs.Prelude.{ℕ, ◌+◌, ◌-◌, ◌/◌, ◌==◌, min, max, Bool, ◌&&◌, nat_lt, nat_le, if◌then◌else◌, Option, Some, None}
-use Rattle.rb_plan_refresh.specs.declared.terms.Terms.{Terms}
+use Rattle.rb_plan_types.specs.declared.terms.Terms.{Terms}
 
 -- from this age on a refresh is urgent: a third of the period is left, or less
 abbrev pub urgent_age : Terms → ℕ

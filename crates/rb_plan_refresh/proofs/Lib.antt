@@ -1,2 +1,0 @@
-mod Alive
-mod Seldom

@@ -1,5 +1,0 @@
-use Rattle.rb_plan_refresh.proofs.Seldom.{calm_seldom, calm_seldom_with_lag, always_seldom, seldom}
-use Rattle.rb_plan_refresh.proofs.laws.refreshes_are_seldom.Goals as goal
-
-pub returns : goal.returns
-returns c = record { calm = calm_seldom; calm_where_nodes_lag = calm_seldom_with_lag; always = always_seldom; all = seldom }

@@ -1,3 +1,0 @@
-pub mod Refresh
-pub mod Turns
-pub mod Laws
