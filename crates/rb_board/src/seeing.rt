@@ -11,8 +11,8 @@ use crate::error::DeskError;
 use rb_base::Part;
 use rb_core_model::{Scan, scan};
 use rb_graph::Graph;
+use rb_plan::draft;
 use rb_plan_client::{Draft, JobView};
-use rb_plan_drafting::draft;
 use std::alloc::{AllocError, Allocator};
 
 /// Scans a part of a path as the desk shows it. `NoMemory` where a growth is refused, else as

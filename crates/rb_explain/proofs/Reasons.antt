@@ -9,7 +9,7 @@ use Rattle.rb_plan_types.specs.declared.labelling.Label.{Label}
 use Rattle.rb_plan_client.specs.Draft.{Plan, IsPlan}
 use Rattle.rb_plan_client.specs.Reach.{IsReach}
 use Rattle.rb_plan_client.specs.Task.{Task, view_of}
-use Rattle.rb_plan_drafting.proofs.RightAnswers.{reach_from_top}
+use Rattle.rb_plan.proofs.RightAnswers.{reach_from_top}
 use Rattle.rb_step.specs.View.{client_of}
 use Rattle.rb_script_types.specs.declared.goal.Goal.{Goal}
 use Rattle.rb_step.specs.LightClient.{Update}

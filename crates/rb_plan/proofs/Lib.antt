@@ -1,5 +1,6 @@
 pub mod Cheapening
+pub mod FirstOfGoal
+pub mod RightAnswers
 pub mod Serving
 pub mod StepBetween
-pub mod FirstOfGoal
 pub mod Walks

@@ -21,8 +21,8 @@ use crate::taking::{note, offer};
 use rb_base::{Gate, WorkItem};
 use rb_core_model::{CoreError, Event};
 use rb_graph::SharedGraph;
+use rb_plan::draft;
 use rb_plan_client::{Draft, JobView};
-use rb_plan_drafting::draft;
 use std::alloc::{AllocError, Allocator};
 use std::thread::Threads;
 

@@ -10,8 +10,8 @@ use rb_book::{ChainBook, Vote};
 use rb_core::{Core, Told};
 use rb_core_model::{CoreError, Event, Reply, scan};
 use rb_graph::Graph;
+use rb_plan::draft;
 use rb_plan_client::{Draft, JobView};
-use rb_plan_drafting::draft;
 use rb_scan::Sequence;
 use rb_script_types::{
     Asked, Block, BlockHeight, Goal, Observation, Refusal, Settlement, is_config,

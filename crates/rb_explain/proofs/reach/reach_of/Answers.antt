@@ -1,4 +1,4 @@
-use Rattle.rb_plan_drafting.proofs.RightAnswers.{reach_from_top}
+use Rattle.rb_plan.proofs.RightAnswers.{reach_from_top}
 use Rattle.rb_step.specs.View.{client_of}
 use Rattle.rb_explain.proofs.reach.reach_of.Goals as goal
 

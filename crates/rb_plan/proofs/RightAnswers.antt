@@ -13,7 +13,7 @@ use Rattle.rb_plan_types.specs.Least.{IsUnreachable}
 use Rattle.rb_step.specs.LightClient.{Client}
 use Rattle.rb_step.specs.View.{client_of}
 use Rattle.rb_plan_client.specs.Draft.{Planned, IsPlan, IsPlanned, IsAnswer}
-use Rattle.rb_plan_drafting.specs.Planning.{IsPlannedFor, IsPlannedIf}
+use Rattle.rb_plan.specs.Planning.{IsPlannedFor, IsPlannedIf}
 use Rattle.rb_plan_client.specs.Reach.{IsReach}
 use Rattle.rb_plan_client.specs.Task.{Task, view_of, goal_of}
 

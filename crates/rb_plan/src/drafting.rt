@@ -2,7 +2,7 @@
 ghost use Rattle.std.specs.Prelude.{◌≡◌, IfOk};
 ghost use Rattle.rb_plan_client.specs.Draft.{IsDraft};
 
-use crate::planning::answer_and_next;
+use crate::answering::answer_and_next;
 use rb_graph::Graph;
 use rb_plan_client::{Draft, JobView};
 use std::alloc::{AllocError, Allocator};

@@ -8,14 +8,15 @@ ghost use Rattle.rb_plan_types.specs.ProofHeight.{IsProofHeight};
 ghost use Rattle.rb_step.specs.View.{client_of};
 ghost use Rattle.rb_plan_client.specs.Draft.{IsCut, IsSending, IsAnswer, planned_updates};
 ghost use Rattle.rb_plan_client.specs.Next.{IsNext};
-ghost use Rattle.rb_plan_drafting.specs.Planning.{IsPlannedFor, IsPlannedIf};
+ghost use Rattle.rb_plan.specs.Planning.{IsPlannedFor, IsPlannedIf};
 ghost use Rattle.rb_plan_client.specs.Sent.{sending_view};
 ghost use Rattle.rb_plan_client.specs.Task.{Message, view_of, gas_of, gases, first_press, due_messages, is_apart, messages_of};
 
+use crate::labels::label;
+use crate::planning::plan_by;
 use rb_base::{Height, Moment};
 use rb_batch::{BatchError, Msg, Transaction, cut, cut_apart};
 use rb_graph::Graph;
-use rb_plan::{label, plan_by};
 use rb_plan_client::{
     Batch, JobView, Message, Plan, Planned, Sending, first_press, goal_of, is_apart,
     next_once_taken, ready_messages, sending_reach,

@@ -1,4 +1,4 @@
-use Rattle.rb_plan_drafting.proofs.planning.together.Goals as goal
+use Rattle.rb_plan.proofs.answering.together.Goals as goal
 
 pub returns-clause-too_big : goal.returns-clause-too_big
 returns-clause-too_big g c = λ index is.

@@ -1,7 +1,7 @@
 use Rattle.std.proofs.Common.{ap, subst, sym, ◌∙◌, ℕ, Err}
 use Rattle.rb_batch.specs.Cut.{IsFirstTooBig}
 use Rattle.rb_plan_client.specs.Task.{gases}
-use Rattle.rb_plan_drafting.proofs.planning.sending.Goals as goal
+use Rattle.rb_plan.proofs.answering.sending.Goals as goal
 
 pub returns-in-Err-TooBig : goal.returns-in-Err-TooBig
 returns-in-Err-TooBig g c =

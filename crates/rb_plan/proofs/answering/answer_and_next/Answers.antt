@@ -2,8 +2,8 @@ use Rattle.std.proofs.Common.{subst}
 use Rattle.rb_plan_types.specs.Labelling.{IsExact, label_of}
 use Rattle.rb_step.specs.View.{View, client_of}
 use Rattle.rb_plan_client.specs.Task.{view_of}
-use Rattle.rb_plan_drafting.proofs.RightAnswers.{answer_right, reach_from_top}
-use Rattle.rb_plan_drafting.proofs.planning.answer_and_next.Goals as goal
+use Rattle.rb_plan.proofs.RightAnswers.{answer_right, reach_from_top}
+use Rattle.rb_plan.proofs.answering.answer_and_next.Goals as goal
 
 pub returns : goal.returns
 returns g c =
