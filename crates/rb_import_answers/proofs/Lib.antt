@@ -1,5 +1,6 @@
-pub mod Dashes
 pub mod Counts
-pub mod Values
+pub mod Dashes
 pub mod Durations
+pub mod HeaderVarints
 pub mod PlainTexts
+pub mod Values

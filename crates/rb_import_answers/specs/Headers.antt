@@ -15,7 +15,7 @@ use Rattle.rb_import_json.specs.declared.field_path.Key.{Key}
 use Rattle.rb_import_json.specs.declared.field_path.Segment.{Segment}
 use Rattle.rb_import_json.specs.FieldErrors.{◌>>=◌, must}
 use Rattle.rb_import_json.specs.Fields.{Object, flaw_at, object, inner, items, number_or_zero, count, height, chain, time, hex, bytes, base64, each}
-use Rattle.rb_header.specs.HeaderHash.{BlockId, Header as HeaderFields, header_hash, header_view as fields_view}
+use Rattle.rb_import_answers.specs.HeaderHash.{BlockId, Header as HeaderFields, header_hash, header_view as fields_view}
 use Rattle.rb_import_answers.specs.Roots.{root_of}
 use Rattle.rb_import_answers.specs.Votes.{flag}
 

@@ -7,9 +7,9 @@ ghost use Rattle.rb_import_answers.specs.Votes.{flag};
 ghost use Rattle.rb_import_answers.specs.Headers.{block, block_view, canonical, cast, of_height, round, signature_of, signed, signed_view, vote};
 
 use crate::header::read_header_fields;
+use crate::header_fields::Header;
 use crate::root::root_of;
 use rb_base::{ChainId, Height, Moment};
-use rb_header::Header;
 use rb_import_json::{AnswerError, FieldError, FieldErrorName, Key, Object, Segment};
 use serde_json::Value;
 use std::alloc::{AllocError, Global};
@@ -130,7 +130,7 @@ pub(crate) fn read_commit(alloc: Global, answer: &Object<'_>) -> Result<SignedHe
     let fields = read_header_fields(alloc, &head)?;
     let proposer = head.address(Key::ProposerAddress)?;
     judge_height(&commit, fields.height)?;
-    let hash = rb_header::header_hash(alloc, &fields)?;
+    let hash = crate::header_hash(alloc, &fields)?;
     let signatures = signatures_of(alloc, votes.as_slice())?;
     Ok(SignedHeader {
         chain: fields.chain,

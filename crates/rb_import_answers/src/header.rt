@@ -1,11 +1,11 @@
 //! The fields of a header.
 ghost use Rattle.std.specs.Prelude.{◌≡◌};
-ghost use Rattle.rb_header.specs.HeaderHash.{block_id_view, header_view};
+ghost use Rattle.rb_import_answers.specs.HeaderHash.{block_id_view, header_view};
 ghost use Rattle.rb_import_json.specs.FieldErrors.{Reads, Gives};
 ghost use Rattle.rb_import_json.specs.Fields.{object_view};
 ghost use Rattle.rb_import_answers.specs.Headers.{fields, last_block, versions};
 
-use rb_header::{BlockId, Header};
+use crate::header_fields::{BlockId, Header};
 use rb_import_json::{AnswerError, FieldError, Key, Object, Segment};
 use std::alloc::Global;
 

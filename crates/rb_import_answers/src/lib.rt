@@ -1,6 +1,6 @@
-//! Answers of nodes, as CometBFT's RPC and ibc-go's REST gateway give them: signed headers, pages
-//! of validators, client states, consensus states, the events of packets and which packets are pending; verdicts
-//! on signatures; or what is wrong with an answer, and where.
+//! Answers of nodes, as CometBFT's RPC and ibc-go's REST gateway give them: signed headers, with the hash that their
+//! commit votes for, pages of validators, client states, consensus states, the events of packets and which packets are
+//! pending; verdicts on signatures; or what is wrong with an answer, and where.
 #![tactic(auto)]
 
 mod answer;
@@ -9,6 +9,9 @@ mod client;
 mod commit;
 mod duration;
 mod header;
+mod header_encoding;
+mod header_fields;
+pub mod header_laws;
 mod number;
 mod packets;
 mod pending;
@@ -25,6 +28,7 @@ mod verdicts;
 pub use answer::{MAX_ANSWER_BYTES, NodeAnswer, read_answer};
 pub use client::{ClientState, ConsensusPage, ConsensusState, TrustLevel};
 pub use commit::{BlockIdFlag, Cast, CommitVote, Signature, SignedHeader};
+pub use header_fields::{BlockId, Header, HeaderBytes, header_hash};
 pub use packets::{PacketEvent, PacketKind, PacketPage, RevisionHeight};
 pub use pending::{Pending, SequencePage};
 pub use query::Query;

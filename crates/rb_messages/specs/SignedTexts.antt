@@ -6,7 +6,7 @@ use Rattle.std.specs.Str.{bytes_eq}
 use Rattle.base64.specs.Engines.{standard}
 use Rattle.base64.specs.GeneralPurpose.{encode_of}
 use Rattle.rb_script_text.specs.Moments.{moment_text}
-use Rattle.rb_header.specs.HeaderHash.{BlockId, Header as HeaderFields}
+use Rattle.rb_import_answers.specs.HeaderHash.{BlockId, Header as HeaderFields}
 use Rattle.rb_import_answers.specs.declared.commit.Cast.{Cast}
 use Rattle.rb_import_answers.specs.declared.commit.CommitVote.{CommitVote}
 use Rattle.rb_import_answers.specs.declared.commit.CommitVote.TheVariants as kinds

@@ -1,10 +1,10 @@
 //! The text of a header (CometBFT, `Header`), all of whose fields its hash covers.
 ghost use Rattle.std.specs.Prelude.{◌≡◌, ◌++◌, OnOk, string_bytes};
-ghost use Rattle.rb_header.specs.HeaderHash.{header_view};
+ghost use Rattle.rb_import_answers.specs.HeaderHash.{header_view};
 ghost use Rattle.rb_messages.specs.SignedTexts.{app_text, app_version_text, block_hashes, block_version_text, consensus_text, next_hash, hashes_text, head_text, header_tail, header_text, id_head, id_text, last_block_text, last_hashes, parts_head, parts_tail, state_hashes, subject_text, versions_text};
 
 use crate::text::{push_bytes, push_member, push_name, push_time};
-use rb_header::Header;
+use rb_import_answers::Header;
 use std::alloc::AllocError;
 
 /// Adds a header.

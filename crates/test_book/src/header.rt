@@ -1,7 +1,7 @@
 use crate::merkle::to_hex;
 use crate::same::assert_same;
 use rb_base::{ChainId, Height, Moment};
-use rb_header::{BlockId, Header, HeaderBytes, header_hash};
+use rb_import_answers::{BlockId, Header, HeaderBytes, header_hash};
 use sha2::{Digest, Sha256};
 use std::alloc::{AllocError, Global};
 use std::process::Abort;

@@ -1,9 +1,9 @@
 //! A header's fields, and its hash.
 ghost use Rattle.std.specs.Prelude.{◌≡◌, IfOk, map};
-ghost use Rattle.rb_header.specs.Encoding.{bytes_field, number_field};
-ghost use Rattle.rb_header.specs.HeaderHash.{block_id_view, header_view, block_id_bytes, encoded, header_hash, time_bytes, version_bytes};
+ghost use Rattle.rb_import_answers.specs.Encoding.{bytes_field, number_field};
+ghost use Rattle.rb_import_answers.specs.HeaderHash.{block_id_view, header_view, block_id_bytes, encoded, header_hash, time_bytes, version_bytes};
 
-use crate::encoding::{bytes_alone, push_bytes, push_counted, push_number, two_numbers};
+use crate::header_encoding::{bytes_alone, push_bytes, push_counted, push_number, two_numbers};
 use arrayvec::ArrayVec;
 use rb_base::{ChainId, Height, Moment};
 use std::alloc::{AllocError, Global};

@@ -1,6 +1,6 @@
 //! Fields of protocol buffers.
 ghost use Rattle.std.specs.Prelude.{◌≡◌, ◌<◌, ◌^◌, ◌++◌, length, OnOk, IfOk};
-ghost use Rattle.rb_header.specs.Encoding.{varint, number_field, counted, bytes_field};
+ghost use Rattle.rb_import_answers.specs.Encoding.{varint, number_field, counted, bytes_field};
 
 use std::alloc::{AllocError, Global};
 

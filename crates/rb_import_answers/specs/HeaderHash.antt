@@ -1,9 +1,9 @@
 -- The hash of a header (CometBFT, `Header.Hash`).
 use Rattle.std.specs.Prelude.{ℕ, ◌/◌, ◌%◌, ◌^◌, List, [], ◌∷◌, ◌++◌}
 use Rattle.rb_merkle.specs.TreeHash.{tree_root}
-use Rattle.rb_header.specs.declared.header.BlockId.{BlockId as CodeBlockId}
-use Rattle.rb_header.specs.declared.header.Header.{Header as CodeHeader}
-use Rattle.rb_header.specs.Encoding.{number_field, counted, bytes_field}
+use Rattle.rb_import_answers.specs.declared.header_fields.BlockId.{BlockId as CodeBlockId}
+use Rattle.rb_import_answers.specs.declared.header_fields.Header.{Header as CodeHeader}
+use Rattle.rb_import_answers.specs.Encoding.{number_field, counted, bytes_field}
 
 -- a block's hash, and how many parts it was sent in, with their hash (CometBFT, `BlockID`)
 pub record BlockId : Type 0 where

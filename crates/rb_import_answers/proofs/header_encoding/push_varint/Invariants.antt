@@ -1,6 +1,6 @@
 use Rattle.std.proofs.Common.{◌≡◌, ◌++◌}
-use Rattle.rb_header.specs.Encoding.{varint}
-use Rattle.rb_header.proofs.encoding.push_varint.Given as goal
+use Rattle.rb_import_answers.specs.Encoding.{varint}
+use Rattle.rb_import_answers.proofs.header_encoding.push_varint.Given as goal
 
 abbrev pub invariant-loop-rest : goal.invariant-loop-rest
 invariant-loop-rest l = l.out.items ++ varint l.rest ≡ l.initial.out.items ++ varint l.number

@@ -4,7 +4,7 @@ use Rattle.std.proofs.lemmas.Bool.{lt-ltb, lt-leb}
 use Rattle.std.proofs.lemmas.Bool.Decides.{leb_tells}
 use Rattle.std.proofs.Math.Nat.{pow-suc, div-lt_iff_lt-mul}
 use Rattle.rb_valset.specs.Validator.{varint_within}
-use Rattle.rb_header.specs.Encoding.{varint, IsVarint}
+use Rattle.rb_import_answers.specs.Encoding.{varint, IsVarint}
 
 -- one digit more than needed
 varint_within-more : (d n : ℕ) → n < 128 ^ suc d → varint_within (suc d) n ≡ varint_within d n

@@ -1,6 +1,6 @@
 use Rattle.std.proofs.Common.{arith, refl, rules}
-use Rattle.rb_header.proofs.Varints.{varint-last, written}
-use Rattle.rb_header.proofs.encoding.push_varint.Goals as goal
+use Rattle.rb_import_answers.proofs.HeaderVarints.{varint-last, written}
+use Rattle.rb_import_answers.proofs.header_encoding.push_varint.Goals as goal
 
 pub loop-rest-preserved : goal.loop-rest-preserved
 loop-rest-preserved c =
