@@ -11,7 +11,7 @@ use Rattle.rb_script_types.specs.Config.{config_view}
 use Rattle.rb_script_types.specs.declared.config.Config.{Config}
 use Rattle.rb_script_types.specs.Script.{Script, script_view}
 use Rattle.rb_script_types.specs.declared.script.Script.{Script as CodeScript}
-use Rattle.rb_sending.specs.declared.batch.PlannedBatch.{PlannedBatch}
+use Rattle.rb_messages.specs.declared.batch.PlannedBatch.{PlannedBatch}
 use Rattle.ibcplan_folders.specs.Files.{signatures_of}
 use Rattle.ibcplan_folders.specs.Fleets.{IsMadeBy}
 use Rattle.ibcplan_folders.specs.Folders.{AnswerFile}

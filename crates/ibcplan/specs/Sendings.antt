@@ -4,9 +4,9 @@ use Rattle.std.specs.declared.alloc.Global.{Global}
 use Rattle.rb_core.specs.Core.{Core}
 use Rattle.rb_messages.specs.declared.update.PlannedUpdate.{PlannedUpdate}
 use Rattle.rb_script_types.specs.Script.{Script}
-use Rattle.rb_sending.specs.Batches.{batch_view, last_batches}
-use Rattle.rb_sending.specs.Updates.{last_updates, planned_view}
-use Rattle.rb_sending.specs.declared.batch.PlannedBatch.{PlannedBatch}
+use Rattle.rb_messages.specs.Batches.{batch_view, last_batches}
+use Rattle.rb_messages.specs.Updates.{last_updates, planned_view}
+use Rattle.rb_messages.specs.declared.batch.PlannedBatch.{PlannedBatch}
 use Rattle.rb_super_turn.specs.AsEvents.{as_events}
 use Rattle.rb_super_turn.specs.Judging.{IsEndOf}
 use Rattle.rb_super_turn.specs.Phases.{standing_in}

@@ -16,12 +16,11 @@ use ibcplan_folders::{
 use rb_base::Gate;
 use rb_core::Core;
 use rb_import_setup::{Sender, is_setup, read_setup};
-use rb_messages::PlannedUpdate;
-use rb_script_types::{Config, Script};
-use rb_sending::{
-    PlannedBatch, TransactionFile, planned_batches, planned_updates, shell_of, transaction_files,
-    transactions_shell_of,
+use rb_messages::{
+    PlannedBatch, PlannedUpdate, TransactionFile, planned_batches, planned_updates, shell_of,
+    transaction_files, transactions_shell_of,
 };
+use rb_script_types::{Config, Script};
 use rb_super::run_to_end;
 use std::alloc::{AllocError, Global};
 use std::thread::Threads;

@@ -1,6 +1,5 @@
 //! What is written of what a turn sends.
-use rb_messages::MessageFile;
-use rb_sending::TransactionFile;
+use rb_messages::{MessageFile, TransactionFile};
 
 /// The files of the messages of updates, and those of transactions.
 #[derive(Drop)]

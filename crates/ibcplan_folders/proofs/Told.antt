@@ -10,7 +10,7 @@ use Rattle.rb_packets.specs.declared.facts.PathAnswer.{PathAnswer}
 use Rattle.rb_plan_client.specs.Task.{Message}
 use Rattle.rb_script_types.specs.declared.config.Config.{Config}
 use Rattle.rb_script_types.specs.declared.config.PathConfig.{PathConfig}
-use Rattle.rb_sending.specs.declared.batch.PlannedBatch.{PlannedBatch}
+use Rattle.rb_messages.specs.declared.batch.PlannedBatch.{PlannedBatch}
 use Rattle.rb_packets.specs.Facts.{IsAnswerOf}
 use Rattle.ibcplan_folders.specs.Folders.{AnswerFile, OfKnown, content}
 use Rattle.ibcplan_folders.specs.Packets.{IsDue, IsTextOf, WasRead, proofs_of}

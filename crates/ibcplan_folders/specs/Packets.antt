@@ -12,8 +12,8 @@ use Rattle.rb_packets.specs.declared.facts.PathAnswer.{PathAnswer}
 use Rattle.rb_plan_client.specs.Task.{Message}
 use Rattle.rb_script_types.specs.declared.config.Config.{Config}
 use Rattle.rb_script_types.specs.declared.config.PathConfig.{PathConfig}
-use Rattle.rb_sending.specs.Transactions.{sender_at}
-use Rattle.rb_sending.specs.declared.batch.PlannedBatch.{PlannedBatch}
+use Rattle.rb_messages.specs.Transactions.{sender_at}
+use Rattle.rb_messages.specs.declared.batch.PlannedBatch.{PlannedBatch}
 use Rattle.ibcplan_folders.specs.Folders.{AnswerFile, OfKnown, content}
 
 -- what a message of a batch is made of: its packet is one of its path's channel, as the answers tell of it, and its proof is judged by the app

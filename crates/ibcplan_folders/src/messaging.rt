@@ -13,9 +13,9 @@ use ibcplan_cli::ProgramError;
 use rb_base::ChainId;
 use rb_import_check::Saved;
 use rb_messages::{
-    MessageError, MessageFile, PlannedUpdate, file_name, message_files, seen_chains,
+    MessageError, MessageFile, PlannedBatch, PlannedUpdate, TransactionFile, file_name,
+    message_files, seen_chains,
 };
-use rb_sending::{PlannedBatch, TransactionFile};
 use std::alloc::{AllocError, Global};
 use std::fs;
 

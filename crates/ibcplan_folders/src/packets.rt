@@ -14,7 +14,7 @@ use ibcplan_cli::{ProgramError, shown_text};
 use rb_base::ChainId;
 use rb_import_answers::revision_of;
 use rb_import_setup::Sender;
-use rb_messages::id_of;
+use rb_messages::{PlannedBatch, id_of, sender_to};
 use rb_packets::{
     DueMessage, Ends, PacketError, PacketFacts, PathAnswer, ProofRequest, RevisionHeight, ends_of,
     facts_of, message_text, read_path_answer, request_of,
@@ -22,7 +22,6 @@ use rb_packets::{
 use rb_plan_client::Message;
 use rb_scan::{Kind, Order};
 use rb_script_types::{Config, PathConfig};
-use rb_sending::{PlannedBatch, sender_to};
 use std::alloc::{AllocError, Global};
 use std::io;
 

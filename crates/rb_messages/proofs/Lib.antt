@@ -1,4 +1,11 @@
-pub mod Texts
-pub mod Zipped
+pub mod Added
+pub mod Batches
+pub mod Files
+pub mod Least
+pub mod Lines
 pub mod Memory
 pub mod Missing
+pub mod Parts
+pub mod Shown
+pub mod Texts
+pub mod Zipped

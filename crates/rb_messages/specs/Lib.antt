@@ -1,6 +1,12 @@
-pub mod Names
-pub mod Votes
-pub mod SignedTexts
+pub mod Batches
+pub mod Least
 pub mod MessageTexts
-pub mod Sources
 pub mod Messages
+pub mod Names
+pub mod Shell
+pub mod SignedTexts
+pub mod Sources
+pub mod Texts
+pub mod Transactions
+pub mod Updates
+pub mod Votes

@@ -1,6 +1,6 @@
 use Rattle.std.proofs.Common.{◌≡◌, List, ℕ, map, subst}
 use Rattle.rb_messages.specs.declared.message.MessageFile.{MessageFile}
-use Rattle.rb_sending.specs.Transactions.{file_view, files_from}
+use Rattle.rb_messages.specs.Transactions.{file_view, files_from}
 use Rattle.ibcplan_folders.specs.Folders.{OfKnown}
 use Rattle.ibcplan_folders.specs.Messages.{AreAnswersOn, AreMessagesBy}
 use Rattle.ibcplan.proofs.messages.parcel_of.Goals as goal

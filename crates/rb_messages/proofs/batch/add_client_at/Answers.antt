@@ -1,0 +1,7 @@
+use Rattle.std.proofs.Common.{append-nil, map, sym}
+use Rattle.std.proofs.lemmas.Option.{slice_get_past}
+use Rattle.rb_messages.specs.Batches.{batch_view}
+use Rattle.rb_messages.proofs.batch.add_client_at.Goals as goal
+
+pub returns-in-None : goal.returns-in-None
+returns-in-None c = rw (slice_get_past c.args.configs.now c.args.place c.in-None.ensures.lookup.3) (sym (append-nil (map batch_view c.args.batches.now.items)))

@@ -1,7 +1,0 @@
-pub mod Least
-pub mod Lines
-pub mod Parts
-pub mod Added
-pub mod Files
-pub mod Shown
-pub mod Batches

@@ -1,7 +1,0 @@
-use Rattle.std.proofs.Common.{◌≡◌, ◌++◌, string_bytes, take}
-use Rattle.std.specs.List.{flat_map}
-use Rattle.rb_sending.specs.Shell.{send_text}
-use Rattle.rb_sending.proofs.shell.push_files.Given as goal
-
-abbrev pub invariant-loop-file : goal.invariant-loop-file
-invariant-loop-file l = string_bytes l.text ≡ string_bytes l.fn.text ++ flat_map (send_text l.place) (take l.file-index l.files)

@@ -1,6 +1,0 @@
-pub mod Updates
-pub mod Least
-pub mod Batches
-pub mod Texts
-pub mod Transactions
-pub mod Shell
