@@ -6,8 +6,8 @@ use Rattle.rb_base.specs.Window.{Span}
 use Rattle.rb_plan_types.specs.Laws.{AnswersAreOne}
 use Rattle.rb_core_model.specs.Forgetting.{floor, floors_of, rest, rest_at_floors, has_many_to_forget}
 use Rattle.rb_core_model.specs.Standing.{Standing, opening_standing}
-use Rattle.rb_super_laws.specs.Forgetful.{forgotten, floors_if}
-use Rattle.rb_super_laws.specs.Forgetting.{ForgettingByFloorsIsUnseen}
+use Rattle.rb_super.specs.Forgetful.{forgotten, floors_if}
+use Rattle.rb_super.specs.Forgetting.{ForgettingByFloorsIsUnseen}
 use Rattle.rb_script_types.specs.Config.{Config}
 use Rattle.rb_script_types.specs.Script.{Turn as SeenTurn}
 use Rattle.rb_script_types.specs.declared.version.Version.{Version}

@@ -4,8 +4,8 @@ use Rattle.std.specs.List.{flat_map}
 use Rattle.std.specs.declared.alloc.Global.{Global}
 use Rattle.rb_core_model.specs.Forgetting.{has_many_to_forget}
 use Rattle.rb_core_model.specs.Standing.{opening_standing}
-use Rattle.rb_super_laws.specs.Free.{AreFreeReports}
-use Rattle.rb_super_laws.specs.Forgetting.{AreSparedTurns}
+use Rattle.rb_super.specs.Free.{AreFreeReports}
+use Rattle.rb_super.specs.Forgetting.{AreSparedTurns}
 use Rattle.rb_script_types.specs.Script.{Turn as SeenTurn}
 use Rattle.rb_script_types.specs.declared.version.Version.{Version}
 use Rattle.rb_script_types.specs.declared.version.Version.TheVariants.{One, Two, Three, Four}

@@ -1,7 +1,7 @@
 -- Reports of turns after which what serves no more is forgotten.
 use Rattle.rb_core_model.specs.Forgetting.{has_many_to_forget}
 use Rattle.rb_core_model.specs.Standing.{Standing}
-use Rattle.rb_super_laws.specs.Forgetful.{floors_after, AreForgetful}
+use Rattle.rb_super.specs.Forgetful.{floors_after, AreForgetful}
 use Rattle.rb_script_types.specs.declared.version.Version.{Version}
 use Rattle.rb_script_types.specs.declared.version.Version.TheVariants.{One, Two, Three, Four}
 use Rattle.rb_super_turn.specs.Report.{Report}

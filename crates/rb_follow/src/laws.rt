@@ -3,7 +3,7 @@ ghost use Rattle.rb_follow.specs.Laws.{BeginningsAreReported, AnswersAreReports,
 
 use rb_batch::laws::{cut_apart_is_division, cut_apart_is_one, least_cut_is_one};
 use rb_plan_types::laws::answers_are_one;
-use rb_super_laws::forgetting::forgetting_by_floors_is_unseen;
+use rb_super::forgetting::forgetting_by_floors_is_unseen;
 
 /// The reports of a script's beginnings are beginnings of its report: what was answered stays right, whatever
 /// comes later.

@@ -1,5 +1,0 @@
-use Rattle.rb_super_laws.proofs.Schedules.{schedules}
-use Rattle.rb_super_laws.proofs.laws.schedules.Goals as goal
-
-pub returns : goal.returns
-returns c = schedules c.order_gives_report.ensures

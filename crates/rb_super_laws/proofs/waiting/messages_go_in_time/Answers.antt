@@ -1,5 +1,0 @@
-use Rattle.rb_super_laws.proofs.InTime.{in_time}
-use Rattle.rb_super_laws.proofs.waiting.messages_go_in_time.Goals as goal
-
-pub returns : goal.returns
-returns c = in_time c.pressing_goes.ensures

@@ -1,5 +1,0 @@
-use Rattle.rb_super_laws.proofs.Prompt.{none_waits}
-use Rattle.rb_super_laws.proofs.waiting.none_waits.Goals as goal
-
-pub returns : goal.returns
-returns c = none_waits c.stays_a_book.ensures c.none_waits.ensures

@@ -1,5 +1,0 @@
-use Rattle.rb_super_laws.proofs.Watched.{seen_fewest, seen_punctual}
-use Rattle.rb_super_laws.proofs.waiting.seen_is_fewest.Goals as goal
-
-pub returns : goal.returns
-returns c = record { fewest = seen_fewest; punctual = seen_punctual }
