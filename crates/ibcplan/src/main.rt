@@ -1,5 +1,5 @@
 //! ibcplan plans the client updates of an IBC relayer's script, and judges plans that others made.
-//! What it does stands in `rb_text`, `rb_follow`, `rb_import`, `rb_text_export`, `rb_text_report` and `rb_sending`, its command line, its
+//! What it does stands in `rb_text`, `rb_follow`, `rb_import`, `rb_text_export`, `rb_text_report` and `rb_messages`, its command line, its
 //! statuses and its words for the operator in `ibcplan_cli`, its folders in `ibcplan_folders`; here each request is done, and the
 //! status of a plan with `--strict` goes by whether its report tells of something refused.
 #![tactic(auto)]

@@ -1,6 +1,6 @@
 //! The parts of the whole plan of one client: its goal, the packet messages that go with updates, the plan
 //! and the draft of it, when the client has a goal next, and all that such a plan is made from
-//! (`JobView`). `rb_plan_drafting` puts them together.
+//! (`JobView`). `rb_plan` puts them together.
 #![tactic(auto)]
 
 mod batch;

@@ -1,7 +1,7 @@
-"""The cases that `rt ci` gives to crates/test_packets, with the answers that it wants."""
+"""The cases that `rt ci` gives to crates/test_base, with the answers that it wants."""
 import pathlib
 
-CRATE = pathlib.Path(__file__).resolve().parents[3] / "crates" / "test_packets"
+CRATE = pathlib.Path(__file__).resolve().parents[3] / "crates" / "test_base"
 
 
 def write_sample(cases: list[tuple[str, str]]) -> None:
