@@ -1,17 +1,13 @@
 -- The laws of views and of batches, over every log.
-use Rattle.std.proofs.Common.{◌≡◌, ℕ, ◌≤◌, true, false, List, [], ◌∷◌, ◌++◌, map, Some, All, is_some, refl, sym, ap, ◌∙◌, subst, inl, inr, if◌then◌else◌}
+use Rattle.std.proofs.Common.{◌≡◌, ℕ, true, false, List, [], ◌∷◌, ◌++◌, Some, All, is_some, refl, sym, ap, ◌∙◌, subst, inl, inr, if◌then◌else◌}
 use Rattle.std.specs.List.{fold, slice_get}
-use Rattle.std.specs.List.Sorted.{IsStrictlyIncreasing}
 use Rattle.std.specs.Option.{option_map, option_and_then}
 use Rattle.std.proofs.lemmas.Bool.{true≢false}
 use Rattle.std.proofs.lemmas.List.Elements.{All-from_recursion, recursion_from_All, All-contains}
 use Rattle.std.proofs.lemmas.Option.{same_Some, slice_get-get_or}
-use Rattle.rb_book.specs.Book.{RecordAt, height_of, time_of}
 use Rattle.rb_book.specs.Laws.{FindsWhatWasAdded, StaysABook}
 use Rattle.rb_book.proofs.Rising.{pairs_from_up}
 use Rattle.rb_scan.specs.Laws.{SettledIsNotOwed}
-use Rattle.rb_scan.specs.Packet.{Packet}
-use Rattle.rb_scan.specs.Path.{IsPath}
 use Rattle.rb_scan.specs.declared.message.Kind.{Kind}
 use Rattle.rb_step.specs.Laws.{ViewsAreOrderly}
 use Rattle.rb_step.specs.View.{IsView}
@@ -23,14 +19,14 @@ use Rattle.rb_core_model.specs.Event.{Event, IsEvent, Settled}
 use Rattle.rb_core_model.specs.Fits.{AreApart}
 use Rattle.rb_core_model.specs.Machine.{State, begun, job_of, accepted, after, state_of}
 use Rattle.rb_core_model.specs.Snapshot.{Log, followed_by}
-use Rattle.rb_core_model.specs.Standing.{ClientState, Standing, book_at, view_of_path, after_settled, after_messages, settled_messages}
-use Rattle.rb_core_model.specs.Views.{ClientViewsAreViews, PathViewsArePaths}
+use Rattle.rb_core_model.specs.Standing.{ClientState, Standing, after_settled, after_messages, settled_messages}
+use Rattle.rb_core_model.specs.Views.{ClientViewsAreViews}
 use Rattle.rb_core_model.proofs.Begun.{begun_sound, begun_kept}
 use Rattle.rb_core_model.proofs.Marks.{all_at, all_take, all_weaker, part_of, mark_at, IsAbout, all_marked}
 use Rattle.rb_core_model.proofs.Open.{HasInvariant, IsFor, IsBelow, IsGone, IsSent, all_events, apart, not_below, one_client, open_before, steps, settling}
 use Rattle.rb_core_model.proofs.Options.{chained, mapped}
-use Rattle.rb_core_model.proofs.Paths.{IsSoundPath, firsts_messages}
-use Rattle.rb_core_model.proofs.Sound.{IsSound, IsSoundClient, book_sound, client_view_sound, events_sound}
+use Rattle.rb_core_model.proofs.Paths.{firsts_messages}
+use Rattle.rb_core_model.proofs.Sound.{IsSound, IsSoundClient, client_view_sound, events_sound}
 use Rattle.rb_plan_client.specs.Draft.{Job}
 use Rattle.rb_plan_client.specs.Task.{view_of}
 
@@ -56,29 +52,6 @@ module _ (finds : FindsWhatWasAdded) (stays : StaysABook) (orderly : ViewsAreOrd
       let c = mapped (job_of s client w.0) (slice_get s.standing.clients client) job w.2 in
       subst (λ (j : Job). IsView (view_of j.task)) c.2
       (client_view_sound s.standing w.0 c.0 sound w.1 (all_at (IsSoundClient s.standing.books) s.standing.clients client c.0 sound.clients c.1))
-
-  heights_same : (ks : List RecordAt) → map (λ (r : ℕ × ℕ). r.0) (map (λ (k : RecordAt). (height_of k, time_of k)) ks) ≡ map height_of ks
-  heights_same [] = refl
-  heights_same (k ∷ ks) = ap (λ hs. height_of k ∷ hs) (heights_same ks)
-
-  times_same : (ks : List RecordAt) → map (λ (r : ℕ × ℕ). r.1) (map (λ (k : RecordAt). (height_of k, time_of k)) ks) ≡ map time_of ks
-  times_same [] = refl
-  times_same (k ∷ ks) = ap (λ ts. time_of k ∷ ts) (times_same ks)
-
-  pub path_views : PathViewsArePaths
-  path_views config log is start are path v view =
-      let s = state_of config log in
-      let sound = sound_after config log is start are in
-      let p = mapped (view_of_path s.standing.books) (slice_get s.standing.paths path) v view in
-      let good = all_at IsSoundPath s.standing.paths path p.0 sound.paths p.1 in
-      let book = book_sound s.standing.books p.0.config.destination sound.books in
-      let known = (book_at s.standing.books p.0.config.destination).records in
-      subst IsPath p.2 (record {
-        sequences = good.rising;
-        from_first = All-from_recursion (λ (q : Packet). p.0.first ≤ q.sequence) p.0.packets good.from_first;
-        heights = subst IsStrictlyIncreasing (sym (heights_same known)) book.records.heights;
-        times = subst IsStrictlyIncreasing (sym (times_same known)) book.records.times;
-      })
 
 -- ---- batches
 

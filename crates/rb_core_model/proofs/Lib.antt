@@ -16,7 +16,6 @@ pub mod Lengths
 pub mod Accepted
 pub mod Steps
 pub mod Logs
-pub mod Growing
 pub mod Apart
 pub mod Keeping
 pub mod Left

@@ -3,7 +3,7 @@ ghost use Rattle.rb_core_model.specs.Batches.{Batches, BatchesAreRight, Messages
 ghost use Rattle.rb_core_model.specs.Examples.{Examples};
 ghost use Rattle.rb_core_model.specs.Log.{StatesAreOfLogs};
 ghost use Rattle.rb_core_model.specs.Steps.{JudgedByStanding, PresentScansAreAccepted, ScansLast, PresentDraftsAreAccepted, AcceptedDraftsAreOfTheMoment};
-ghost use Rattle.rb_core_model.specs.Views.{ClientViewsAreViews, PathViewsArePaths, ViewsNeverComeBack};
+ghost use Rattle.rb_core_model.specs.Views.{ClientViewsAreViews};
 
 use rb_book::laws::{finds_what_was_added, stays_a_book};
 use rb_scan::laws::{
@@ -69,15 +69,6 @@ pub fn client_views_are_views()
     views_are_orderly();
 }
 
-/// What is seen of a path, whatever happened, is a path.
-pub fn path_views_are_paths()
-    ensures { PathViewsArePaths }
-{
-    finds_what_was_added();
-    stays_a_book();
-    views_are_orderly();
-}
-
 /// What comes from outside is judged by how things stand.
 pub fn judged_by_standing()
     ensures { JudgedByStanding }
@@ -106,9 +97,4 @@ pub fn accepted_drafts_are_of_the_moment()
 /// A state is that of its log, the events that were accepted.
 pub fn states_are_of_logs()
     ensures { StatesAreOfLogs }
-{}
-
-/// The view of a path that changed never comes back.
-pub fn views_never_come_back()
-    ensures { ViewsNeverComeBack }
 {}
