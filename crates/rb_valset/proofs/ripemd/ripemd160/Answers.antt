@@ -1,7 +1,7 @@
 use Rattle.std.proofs.Common.{ap, ◌∙◌}
 use Rattle.rb_valset.specs.Ripemd.{digest_bytes, initial_hash, ripemd160}
 use Rattle.rb_valset.proofs.RipemdBlocks.{hashed}
-use Rattle.rb_valset.proofs.ripemd.hash.Goals as goal
+use Rattle.rb_valset.proofs.ripemd.ripemd160.Goals as goal
 
 pub returns : goal.returns
 unfolding ripemd160
