@@ -5,7 +5,6 @@
 #![tactic(auto)]
 
 mod explain;
-mod explained;
 mod first_text;
 mod following;
 mod forms;
@@ -16,7 +15,6 @@ mod journal;
 mod messages;
 mod parcel;
 mod perform;
-mod progress;
 mod reporting;
 mod searching;
 mod verdict;

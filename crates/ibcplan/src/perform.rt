@@ -7,7 +7,6 @@ ghost use Rattle.ibcplan_cli.specs.Failures.{failure_status, told_fault, is_unwr
 ghost use Rattle.ibcplan.specs.Status.{IsPlanWritten, IsConfirmed, IsDenied};
 
 use crate::explain::{AskedExplanation, Form, explain};
-use crate::explained::Explained;
 use crate::first_text::{FirstText, first_text, last_text};
 use crate::following::{follow, follow_from};
 use crate::forms::{commands_of_script, json_of_script};
@@ -16,12 +15,11 @@ use crate::health::health_of_script;
 use crate::host::Host;
 use crate::journal::{OpenedJournal, open_journal};
 use crate::messages::{MessageLines, messages_of};
-use crate::progress::Progress;
 use crate::reporting::{plan_status, refused_events};
 use crate::verdict::verdict_json;
 use ibcplan_cli::{
-    Following, Given, Import, Input, ProgramError, Request, STANDARD_INPUT, Shown, Wanted,
-    WantedTurns, WorkerCount, setup_for, status,
+    Explained, Following, Given, Import, Input, ProgramError, Progress, Request, STANDARD_INPUT,
+    Shown, Wanted, WantedTurns, WorkerCount, setup_for, status,
 };
 use ibcplan_folders::{ImportedText, WantedText, imported, wanted};
 use rb_base::{Counted, Gate, Sink, write_whole};

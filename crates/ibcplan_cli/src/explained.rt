@@ -4,7 +4,7 @@ use std::io;
 
 /// A sink that keeps the error of the write that failed.
 #[derive(Drop)]
-pub(crate) struct Explained<W> {
+pub struct Explained<W> {
     inner: W,
     error: Option<io::Error>,
 }
@@ -13,19 +13,19 @@ impl<W: Sink> Explained<W> {
     ghost use Rattle.std.specs.Prelude.{◌≡◌};
 
     /// This sink, of which no write has failed yet.
-    pub(crate) fn new(inner: W) -> Explained<W>
+    pub fn new(inner: W) -> Explained<W>
         ensures { result.inner ≡ inner }
     {
         Explained { inner, error: None }
     }
 
     /// The error of the last write that failed, unless that took nothing and gave none.
-    pub(crate) fn error(&self) -> Option<io::Error> {
+    pub fn error(&self) -> Option<io::Error> {
         self.error
     }
 
     /// The sink.
-    pub(crate) fn into_inner(self) -> W
+    pub fn into_inner(self) -> W
         ensures { result ≡ self.inner }
     {
         let Explained { inner, error: _ } = self;
