@@ -11,10 +11,11 @@ pub struct Explained<W> {
 
 impl<W: Sink> Explained<W> {
     ghost use Rattle.std.specs.Prelude.{◌≡◌};
+    ghost use Rattle.ibcplan_cli.specs.Explanations.{explained_sink};
 
     /// This sink, of which no write has failed yet.
     pub fn new(inner: W) -> Explained<W>
-        ensures { result.inner ≡ inner }
+        ensures { explained_sink result ≡ inner }
     {
         Explained { inner, error: None }
     }
@@ -26,7 +27,7 @@ impl<W: Sink> Explained<W> {
 
     /// The sink.
     pub fn into_inner(self) -> W
-        ensures { result ≡ self.inner }
+        ensures { result ≡ explained_sink self }
     {
         let Explained { inner, error: _ } = self;
         inner
@@ -34,9 +35,11 @@ impl<W: Sink> Explained<W> {
 }
 
 impl<W: Sink> Sink for Explained<W> {
-    ghost taken = { λ sink. W.taken sink.inner };
+    ghost use Rattle.ibcplan_cli.specs.Explanations.{explained_sink};
 
-    ghost is_broken = { λ sink. W.is_broken sink.inner };
+    ghost taken = { λ sink. W.taken (explained_sink sink) };
+
+    ghost is_broken = { λ sink. W.is_broken (explained_sink sink) };
 
     fn write(&mut self, piece: &[u8]) -> io::Result<usize> {
         let result = self.inner.write(piece);
