@@ -1,6 +1,7 @@
 //! The stored rows of a step table, made from its book.
 ghost use Rattle.std.specs.Prelude.{◌≡◌, ◌<◌, map, length, slice_get, IfOk, Some, All, Contains, IsTrue, ◌↔◌};
 ghost use Rattle.std.specs.Option.{option_copied, option_map};
+ghost use Rattle.rb_book.specs.Book.{has_hash};
 ghost use Rattle.rb_book.specs.Invariant.{IsBook, IsBacked};
 ghost use Rattle.rb_book.specs.Header.{IsSignedBy};
 ghost use Rattle.rb_graph.specs.StoredRow.{own_set, next_place, next_places, first_naming, stored_power, stored_row_of};
@@ -34,6 +35,14 @@ pub fn next_places<A: Allocator + Copy>(
         .collect(alloc)
 }
 
+/// Whether a set has this hash. Most others differ from it in the first byte already.
+fn is_of_hash<A: Allocator + Copy>(set: &ValidatorSet<A>, hash: &[u8; 32]) -> bool
+    ensures { result ≡ has_hash hash.now set.now }
+{
+    let own = set.hash();
+    own[0] == hash[0] && own == hash
+}
+
 /// The height of the lowest record that names the set as its next, `None` where no record does: headers
 /// above it have a signed power in the set. The records are looked through from the lowest on. The set
 /// needn't be one of the book's.
@@ -45,7 +54,7 @@ pub fn first_naming<A: Allocator + Copy>(
 {
     book.records()
         .iter()
-        .find(|known| set.hash() == known.record().next())
+        .find(|known| is_of_hash(set, known.record().next()))
         .map(|known| known.height())
 }
 
@@ -107,6 +116,7 @@ fn stored_power<A: Allocator + Copy>(
     book: &ChainBook<A>,
     header: &Header<A>,
     own: &ValidatorSet<A>,
+    own_tally: &Tally<A>,
     set: &ValidatorSet<A>,
     lowest: Option<Height>,
     columns: &Columns<A>,
@@ -114,6 +124,8 @@ fn stored_power<A: Allocator + Copy>(
     plane: &Plane<A>,
 ) -> Option<u64>
     requires own { own.now ≡ own_set book.now header.now }
+    requires own_numbered { AreNumbered columns.now own.now }
+    requires own_tally { own_tally.now ≡ entries_of columns.now own.now }
     requires lowest { lowest ≡ first_naming book.now set.now }
     requires numbered { AreNumbered columns.now set.now }
     requires tally { tally.now ≡ entries_of columns.now set.now }
@@ -122,7 +134,7 @@ fn stored_power<A: Allocator + Copy>(
 {
     match lowest {
         Some(lowest) if lowest < header.height() => {
-            Some(tallied(columns, set, tally, own, header, plane))
+            Some(tallied(columns, set, tally, own, own_tally, header, plane))
         }
         _ => None,
     }
@@ -151,7 +163,7 @@ pub fn stored_row_by_columns<A: Allocator + Copy>(
     let own = own_at(book, header, own_place);
     let own_tally = &tallies[own_place];
     let plane = voters_plane(alloc, columns, own, own_tally, header)?;
-    let own_signed = tallied(columns, own, own_tally, own, header, &plane);
+    let own_signed = tallied(columns, own, own_tally, own, own_tally, header, &plane);
     let is_signed = Fraction::two_thirds().is_exceeded_by(own_signed, own.total());
     let mut signed = Vec::with_capacity(alloc, lowest.len())?;
     for (place, set) in book.sets().iter().enumerate() {
@@ -159,6 +171,7 @@ pub fn stored_row_by_columns<A: Allocator + Copy>(
             book,
             header,
             own,
+            own_tally,
             set,
             lowest[place],
             columns,

@@ -49,7 +49,7 @@ impl<A: Allocator + Copy> Frame<A> {
     {
         let next_places = next_places(alloc, &book)?;
         let lowest = first_namings(alloc, &book)?;
-        let columns = number_sets(alloc, book.sets())?;
+        let columns = number_sets(alloc, book.sets(), lowest.as_slice())?;
         let tallies = tallies_of(alloc, &columns, book.sets())?;
         Ok(Frame {
             book,

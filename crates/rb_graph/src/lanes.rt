@@ -9,6 +9,7 @@ ghost use Rattle.rb_book.specs.Intake.{with_set};
 ghost use Rattle.rb_graph.specs.Numbering.{AreNumbered, AreLanesOf, Extends, entries_of};
 
 use crate::numbers::{number_sets, tallies_of, tally_of};
+use rb_base::Height;
 use rb_book::ChainBook;
 use rb_lanes::{Columns, LanesError, Tally};
 use rb_valset::ValidatorSet;
@@ -23,15 +24,16 @@ pub struct Lanes<A: Allocator> {
     pub tallies: Vec<Tally<A>, A>,
 }
 
-/// The lanes of these sets.
+/// The lanes of these sets, of which `lowest` has the height at which each is first named.
 pub fn lanes_of<A: Allocator + Copy>(
     alloc: A,
     sets: &[ValidatorSet<A>],
+    lowest: &[Option<Height>],
 ) -> Result<Lanes<A>, AllocError>
     requires { address_count sets.now ≤ max_columns }
     ensures { IfOk result (λ lanes. AreLanesOf sets.now lanes.columns lanes.tallies.items) }
 {
-    let columns = number_sets(alloc, sets)?;
+    let columns = number_sets(alloc, sets, lowest)?;
     let tallies = tallies_of(alloc, &columns, sets)?;
     Ok(Lanes { columns, tallies })
 }

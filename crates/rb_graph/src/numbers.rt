@@ -1,6 +1,7 @@
 //! The members of a book's sets by column, and the bits of a header's commit voters.
 ghost use Rattle.std.specs.Prelude.{◌≡◌, ◌≤◌, All, map, IfOk, OnOk};
-ghost use Rattle.std.specs.List.{IsDistinct};
+ghost use Rattle.std.specs.List.{IsDistinct, range_with_len};
+ghost use Rattle.std.specs.List.Sorted.{IsPermutation};
 ghost use Rattle.std.specs.Str.{bytes_eq};
 ghost use Rattle.rb_lanes.specs.Lanes.{max_columns, with_address};
 ghost use Rattle.rb_lanes.specs.Refusal.{IsFull};
@@ -9,6 +10,7 @@ ghost use Rattle.rb_book.specs.Header.{IsSignedBy};
 ghost use Rattle.rb_step.specs.SignedPower.{signed_power};
 ghost use Rattle.rb_graph.specs.Numbering.{AreNumbered, entries_of, IsVotersPlane};
 
+use rb_base::Height;
 use rb_book::Header;
 use rb_lanes::{Columns, LanesError, Plane, Tally};
 use rb_valset::ValidatorSet;
@@ -28,19 +30,43 @@ fn number<A: Allocator>(columns: &mut Columns<A>, address: &[u8; 20]) -> Result<
     }
 }
 
+/// The height at which the set of this place is first named, if it is known.
+fn naming_at(lowest: &[Option<Height>], place: usize) -> Option<Height> {
+    *lowest.get(place)?
+}
+
+/// The places of so many sets, by rising height at which each is first named.
+fn places_by_naming<A: Allocator>(
+    alloc: A,
+    count: usize,
+    lowest: &[Option<Height>],
+) -> Result<Vec<usize, A>, AllocError>
+    ensures { IfOk result (λ places. IsPermutation (range_with_len 0 count) places.items) }
+{
+    let mut places = Vec::with_capacity(alloc, count)?;
+    for place in 0..count {
+        places.push(place)?;
+    }
+    places.sort_unstable_by_key(|place: &usize| naming_at(lowest, *place));
+    Ok(places)
+}
+
 /// A column for the address of each member of these sets, the same one for an address that several sets
 /// have. A book's sets have at most 65,536 different addresses, so there is a column for each:
-/// `AllocError` comes only where memory is wanting.
+/// `AllocError` comes only where memory is wanting. `lowest` has the height at which each set is first
+/// named: sets that are named one after the other get neighbouring columns.
 pub fn number_sets<A: Allocator + Copy>(
     alloc: A,
     sets: &[ValidatorSet<A>],
+    lowest: &[Option<Height>],
 ) -> Result<Columns<A>, AllocError>
     requires { address_count sets.now ≤ max_columns }
     ensures { IfOk result (λ columns. All (AreNumbered columns) sets.now) }
 {
     let mut columns = Columns::new(alloc);
-    for set in sets {
-        for member in set.members() {
+    let places = places_by_naming(alloc, sets.len(), lowest)?;
+    for place in places.as_slice() {
+        for member in sets[*place].members() {
             number(&mut columns, member.address())?;
         }
     }
@@ -96,26 +122,31 @@ pub fn voters_plane<A: Allocator + Copy>(
     let mut plane = Plane::new(alloc, columns.len())?;
     let votes = header.votes();
     for (place, entry) in tally.members().iter().enumerate() {
-        if votes[place].is_commit() {
-            plane.set(entry.0 as usize);
-        }
+        plane.set_if(entry.0 as usize, votes[place].is_commit());
     }
     Ok(plane)
 }
 
-/// The power in a set of the header's commit voters, by their bits.
+/// The power in a set of the header's commit voters, by their bits. Where the set's columns are apart from
+/// those of the header's own set, none is a member of it.
 pub fn tallied<A: Allocator + Copy>(
     columns: &Columns<A>,
     set: &ValidatorSet<A>,
     tally: &Tally<A>,
     own: &ValidatorSet<A>,
+    own_tally: &Tally<A>,
     header: &Header<A>,
     plane: &Plane<A>,
 ) -> u64
     requires numbered { AreNumbered columns.now set.now }
     requires tally { tally.now ≡ entries_of columns.now set.now }
+    requires own { AreNumbered columns.now own.now }
+    requires own_tally { own_tally.now ≡ entries_of columns.now own.now }
     requires plane { IsVotersPlane columns.now own.now header.now plane.now }
     ensures { result ≡ signed_power set.now own.now header.now }
 {
+    if tally.is_apart(own_tally) {
+        return 0;
+    }
     tally.sum(plane)
 }

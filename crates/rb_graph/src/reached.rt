@@ -52,7 +52,7 @@ pub fn new_row<A: Allocator + Copy>(
         let tallies = known.tallies.as_slice();
         return stored_row_by_columns(alloc, book, header, place, lowest, &known.columns, tallies);
     }
-    let made = lanes_of(alloc, book.sets())?;
+    let made = lanes_of(alloc, book.sets(), lowest)?;
     let tallies = made.tallies.as_slice();
     let row = stored_row_by_columns(alloc, book, header, place, lowest, &made.columns, tallies)?;
     *lanes = Some(made);

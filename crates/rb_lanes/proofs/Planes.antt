@@ -1,7 +1,8 @@
 -- The bits of a plane, by its bytes.
-use Rattle.std.proofs.Common.{◌≡◌, ℕ, zero, suc, ◌+◌, ◌<◌, ◌≤◌, Bool, true, false, cond, eqb, List, [], ◌∷◌, length, get_or, drop, set, map, replicate, min, refl, sym, ap, ◌∙◌, arith}
+use Rattle.std.proofs.Common.{◌≡◌, ℕ, zero, suc, ◌+◌, ◌<◌, ◌≤◌, Bool, true, false, cond, eqb, List, [], ◌∷◌, length, get_or, drop, set, map, replicate, min, max, refl, sym, ap, ◌∙◌, arith}
+use Rattle.std.specs.Int.{from_bool}
 use Rattle.std.specs.Simd.Lanes.{chunk, zip2, top}
-use Rattle.std.proofs.lemmas.List.{get_or-map, get_or-take, get_or-drop, drop-map, drop_min, length-map, map-set}
+use Rattle.std.proofs.lemmas.List.{get_or-map, get_or-take, get_or-drop, drop-map, drop_min, length-map, map-set, set-get_or}
 use Rattle.std.proofs.lemmas.Simd.{length-chunk}
 use Rattle.rb_lanes.specs.Lanes.{bits_of}
 
@@ -19,6 +20,17 @@ no_bits (suc n) = ap (λ (l : List Bool). false ∷ l) (no_bits n)
 -- a byte that becomes 1 sets the bit of its column alone
 pub bit_raised : (bytes : List ℕ) (k : ℕ) → bits_of (set bytes k 1) ≡ set (bits_of bytes) k true
 bit_raised bytes k = map-set is_one bytes k 1
+
+-- the greater of a byte and a bit sets the bit of its column where the bit is set
+pub bit_raised_if : (bytes : List ℕ) (k v : ℕ) (is_set : Bool) → get_or bytes k 0 ≤ 1 → v ≡ max (get_or bytes k 0) (from_bool is_set) → bits_of (set bytes k v) ≡ cond is_set (set (bits_of bytes) k true) (bits_of bytes)
+bit_raised_if bytes k v true small e =
+    let greatest : v ≡ max (get_or bytes k 0) 1 = e in
+    let one : v ≡ 1 = omega (arith, greatest, small) in
+    ap (λ (n : ℕ). bits_of (set bytes k n)) one ∙ bit_raised bytes k
+bit_raised_if bytes k v false small e =
+    let greatest : v ≡ max (get_or bytes k 0) 0 = e in
+    let same : v ≡ get_or bytes k 0 = omega (arith, greatest) in
+    ap (λ (n : ℕ). bits_of (set bytes k n)) same ∙ ap bits_of (set-get_or bytes k 0)
 
 -- the test of a column's byte
 pub bit_test : (bytes : List ℕ) (k d : ℕ) → k < length bytes → eqb (get_or bytes k d) 1 ≡ get_or (bits_of bytes) k false

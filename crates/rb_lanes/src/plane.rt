@@ -1,5 +1,5 @@
 //! One bit a column.
-ghost use Rattle.std.specs.Prelude.{◌≡◌, ◌<◌, ◌≤◌, Bool, true, false, length, count_by, replicate, drop, slice_set, slice_index_or, IfOk};
+ghost use Rattle.std.specs.Prelude.{◌≡◌, ◌<◌, ◌≤◌, Bool, true, false, length, count_by, replicate, drop, slice_set, slice_index_or, IfOk, if◌then◌else◌};
 ghost use Rattle.std.specs.Int.{from_bool};
 
 use std::alloc::{AllocError, Allocator, Global};
@@ -49,6 +49,14 @@ impl<A: Allocator> Plane<A> {
         ensures { self.new ≡ slice_set self.old column true }
     {
         self.bytes[column] = 1;
+    }
+
+    /// Sets the bit of a column where it is to be set, without a jump.
+    pub fn set_if(&mut self, column: usize, is_set: bool)
+        requires { column < length self.old }
+        ensures { self.new ≡ (if is_set then slice_set self.old column true else self.old) }
+    {
+        self.bytes[column] = self.bytes[column].max(u8::from(is_set));
     }
 
     /// Whether the bit of a column is set; past the last column none is.

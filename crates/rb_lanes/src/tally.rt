@@ -1,5 +1,5 @@
 //! The powers of a set's members, each beside its column.
-ghost use Rattle.std.specs.Prelude.{◌≡◌, ◌*◌, ◌+◌, ◌<◌, ◌≤◌, ℕ, All, IfOk, sum_by, length, IfSome};
+ghost use Rattle.std.specs.Prelude.{◌≡◌, ◌*◌, ◌+◌, ◌<◌, ◌≤◌, ℕ, All, IfOk, IsTrue, sum_by, length, IfSome};
 ghost use Rattle.rb_lanes.specs.Lanes.{member_total, max_total, max_columns, IsSpread};
 
 use crate::plane::Plane;
@@ -8,24 +8,21 @@ use crate::sums::{masked_sum_from, member_sum};
 use std::alloc::{AllocError, Allocator, Global};
 use std::marker::Model;
 
-/// Powers by column, from a first column on.
-#[derive(Drop)]
-struct Span<A: Allocator> {
-    first: usize,
-    powers: Powers<A>,
-}
-
 /// Powers, each beside its column: those of a set's members. Where at least half of the columns from
-/// the lowest to the highest have one, they are kept a second time by column, and summed eight
-/// columns a step.
+/// the first to the last have one, they are kept a second time by column, and summed eight columns a
+/// step.
 #[derive(Drop)]
 pub struct Tally<A: Allocator = Global> {
     members: Vec<(u32, u64), A>,
-    span: Option<Span<A>>,
+    first: usize,
+    /// One more than the last column.
+    end: usize,
+    /// The powers by column, from the first on.
+    powers: Option<Powers<A>>,
 }
 
 impl<A: Allocator> Model for Tally<A> {
-    ghost use Rattle.std.specs.Prelude.{◌≤◌, ℕ, List, IfSome, sum_by};
+    ghost use Rattle.std.specs.Prelude.{◌<◌, ◌≤◌, ℕ, List, All, IfSome, sum_by};
     ghost use Rattle.rb_lanes.specs.Lanes.{IsSpread, max_total};
 
     ghost Value = { List (ℕ × ℕ) };
@@ -33,7 +30,8 @@ impl<A: Allocator> Model for Tally<A> {
     ghost view = { λ t. t.members.items };
 
     ghost invariant = { λ t. (sum_by (λ (m : ℕ × ℕ). m.1) t.members.items ≤ max_total)
-        × IfSome t.span (λ s. IsSpread s.powers s.first t.members.items) };
+        × All (λ (m : ℕ × ℕ). (t.first ≤ m.0) × (m.0 < t.end)) t.members.items
+        × IfSome t.powers (λ powers. IsSpread powers t.first t.members.items) };
 }
 
 /// The lowest column, the greatest number where there is none.
@@ -62,14 +60,18 @@ fn end(members: &[(u32, u64)]) -> u32
     end
 }
 
-/// The powers by column, where at least half of the columns of their span have one.
-fn span_of<A: Allocator>(alloc: A, members: &[(u32, u64)]) -> Result<Option<Span<A>>, AllocError>
-    requires columns { All (λ (m : ℕ × ℕ). m.0 < max_columns) members.now }
+/// The powers by column, from the first column on to the end, where at least half of these have one.
+fn powers_of<A: Allocator>(
+    alloc: A,
+    members: &[(u32, u64)],
+    first: usize,
+    end: usize,
+) -> Result<Option<Powers<A>>, AllocError>
+    requires columns { All (λ (m : ℕ × ℕ). (first ≤ m.0) × (m.0 < end)) members.now }
+    requires order { first ≤ end }
     requires total { sum_by (λ (m : ℕ × ℕ). m.1) members.now ≤ max_total }
-    ensures { IfOk result (λ found. IfSome found (λ s. IsSpread s.powers s.first members.now)) }
+    ensures { IfOk result (λ found. IfSome found (λ powers. IsSpread powers first members.now)) }
 {
-    let end = end(members) as usize;
-    let first = (lowest(members) as usize).min(end);
     let columns = end - first;
     if columns / 2 > members.len() {
         return Ok(None);
@@ -78,7 +80,7 @@ fn span_of<A: Allocator>(alloc: A, members: &[(u32, u64)]) -> Result<Option<Span
     for (column, power) in members {
         powers.add(*column as usize - first, *power);
     }
-    Ok(Some(Span { first, powers }))
+    Ok(Some(powers))
 }
 
 impl<A: Allocator + Copy> Tally<A> {
@@ -89,8 +91,15 @@ impl<A: Allocator + Copy> Tally<A> {
         requires total { sum_by (λ (m : ℕ × ℕ). m.1) members.items ≤ max_total }
         ensures { IfOk result (λ tally. tally ≡ members.items) }
     {
-        let span = span_of(alloc, members.as_slice())?;
-        Ok(Tally { members, span })
+        let end = end(members.as_slice()) as usize;
+        let first = (lowest(members.as_slice()) as usize).min(end);
+        let powers = powers_of(alloc, members.as_slice(), first, end)?;
+        Ok(Tally {
+            members,
+            first,
+            end,
+            powers,
+        })
     }
 }
 
@@ -106,9 +115,16 @@ impl<A: Allocator> Tally<A> {
     pub fn sum(&self, plane: &Plane<A>) -> u64
         ensures { result ≡ member_total self.now plane.now }
     {
-        match &self.span {
-            Some(span) => masked_sum_from(&span.powers, plane, span.first),
+        match &self.powers {
+            Some(powers) => masked_sum_from(powers, plane, self.first),
             None => member_sum(self.members.as_slice(), plane),
         }
+    }
+
+    /// Whether all columns of the one are below those of the other: then they have none in common.
+    pub fn is_apart(&self, other: &Tally<A>) -> bool
+        ensures { IsTrue result → All (λ (m : ℕ × ℕ). All (λ (o : ℕ × ℕ). ¬ (m.0 ≡ o.0)) other.now) self.now }
+    {
+        self.end <= other.first || other.end <= self.first
     }
 }

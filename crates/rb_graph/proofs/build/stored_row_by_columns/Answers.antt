@@ -41,6 +41,34 @@ tallied-own_signed-requires-clause-tally g c =
     ∙ made_at (entries_of c.args.columns.now) b.sets c.args.tallies.now c.args.own_place (own_set b c.args.header.now) c.index-tallies-own_place.result c.requires.tallies c.requires.own
     ∙ ap (entries_of c.args.columns.now) (sym c.own_at-own.ensures.own)
 
+pub tallied-own_signed-requires-clause-own : goal.tallied-own_signed-requires-clause-own
+tallied-own_signed-requires-clause-own g c =
+    let b = c.args.book.now in
+    let own : List Member = own_set b c.args.header.now in
+    subst (AreNumbered c.args.columns.now) (get_or_from_slice_get b.sets c.args.own_place own own c.requires.own ∙ sym c.own_at-own.ensures.own)
+    (c.requires.numbered c.args.own_place own (slice_get_within b.sets c.args.own_place own c.requires.own))
+
+pub tallied-own_signed-requires-clause-own_tally : goal.tallied-own_signed-requires-clause-own_tally
+tallied-own_signed-requires-clause-own_tally g c =
+    let b = c.args.book.now in
+    c.index-tallies-own_place.is
+    ∙ made_at (entries_of c.args.columns.now) b.sets c.args.tallies.now c.args.own_place (own_set b c.args.header.now) c.index-tallies-own_place.result c.requires.tallies c.requires.own
+    ∙ ap (entries_of c.args.columns.now) (sym c.own_at-own.ensures.own)
+
+pub stored_power-requires-clause-own_numbered : goal.stored_power-requires-clause-own_numbered
+stored_power-requires-clause-own_numbered g c =
+    let b = c.args.book.now in
+    let own : List Member = own_set b c.args.header.now in
+    subst (AreNumbered c.args.columns.now) (get_or_from_slice_get b.sets c.args.own_place own own c.requires.own ∙ sym c.own_at-own.ensures.own)
+    (c.requires.numbered c.args.own_place own (slice_get_within b.sets c.args.own_place own c.requires.own))
+
+pub stored_power-requires-clause-own_tally : goal.stored_power-requires-clause-own_tally
+stored_power-requires-clause-own_tally g c =
+    let b = c.args.book.now in
+    c.index-tallies-own_place.is
+    ∙ made_at (entries_of c.args.columns.now) b.sets c.args.tallies.now c.args.own_place (own_set b c.args.header.now) c.index-tallies-own_place.result c.requires.tallies c.requires.own
+    ∙ ap (entries_of c.args.columns.now) (sym c.own_at-own.ensures.own)
+
 pub stored_power-requires-clause-numbered : goal.stored_power-requires-clause-numbered
 stored_power-requires-clause-numbered g c =
     let same = c.sets-set-items.ensures.value in

@@ -1,6 +1,6 @@
 use Rattle.std.proofs.Common.{◌≡◌, ℕ, length, sum, sum_by, take}
 use Rattle.rb_lanes.specs.Lanes.{IsSpread}
-use Rattle.rb_lanes.proofs.tally.span_of.Given as goal
+use Rattle.rb_lanes.proofs.tally.powers_of.Given as goal
 
 abbrev pub invariant-loop-column : goal.invariant-loop-column
 invariant-loop-column g l = record {
