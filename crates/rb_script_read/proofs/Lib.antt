@@ -3,6 +3,7 @@ pub mod TurnNamesLemmas
 pub mod SetsLemmas
 pub mod ReadyLemmas
 pub mod EventsLemmas
+pub mod Letters
 pub mod FrontLemmas
 pub mod PlainLemmas
 pub mod Forms

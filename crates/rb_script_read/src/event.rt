@@ -1,5 +1,6 @@
 //! The events of a turn.
-ghost use Rattle.std.specs.Prelude.{◌≡◌, ◌<◌, [], codes, length, IfSome};
+ghost use Rattle.std.specs.Prelude.{◌≡◌, ◌<◌, [], Some, true, codes, is_some, length, not, IfSome};
+ghost use Rattle.std.specs.List.{list_any};
 ghost use Rattle.toml.specs.View.{view, items_view};
 ghost use Rattle.rb_script_toml.specs.Faults.{Gives};
 ghost use Rattle.rb_script_toml.specs.Fields.{field_view, section_view, only, needs, next_in_sequence, in_sequence};
@@ -59,16 +60,40 @@ fn needed_kind(section: &Section<'_>) -> Result<EventKind, RunError>
     read_kind(&section.required("kind")?)
 }
 
-fn vote_of(letter: u8) -> Option<Vote>
-    ensures { result ≡ vote_of letter }
+/// Whether a letter is that of a vote.
+fn is_vote(letter: u8) -> bool
+    ensures { result ≡ is_some (vote_of letter) }
 {
-    match letter {
-        b'C' => Some(Vote::Commit),
-        b'N' => Some(Vote::Nil),
-        b'A' => Some(Vote::Absent),
-        b'B' => Some(Vote::Bad),
-        _ => None,
+    (letter == b'C') | (letter == b'N') | (letter == b'A') | (letter == b'B')
+}
+
+/// The vote of a letter. No jump depends on the letter, so that mixed votes cost no more than others.
+fn vote_of(letter: u8) -> Vote
+    requires { is_some (vote_of letter) ≡ true }
+    ensures { vote_of letter ≡ Some result }
+{
+    let mut vote = Vote::Commit;
+    if letter == b'N' {
+        vote = Vote::Nil;
     }
+    if letter == b'A' {
+        vote = Vote::Absent;
+    }
+    if letter == b'B' {
+        vote = Vote::Bad;
+    }
+    vote
+}
+
+/// Whether some letter is no vote's. All are looked at, many in a step.
+fn has_other(letters: &[u8]) -> bool
+    ensures { result ≡ list_any (λ letter. not (is_some (vote_of letter))) letters.now }
+{
+    let mut has_other = false;
+    for letter in letters {
+        has_other |= !is_vote(*letter);
+    }
+    has_other
 }
 
 /// The votes that these letters are.
@@ -76,12 +101,12 @@ fn vote_of(letter: u8) -> Option<Vote>
 fn votes_of(field: &Field<'_>, letters: &[u8]) -> Result<Vec<Vote>, RunError>
     ensures { Gives (λ v. v.items) result (votes_after (field_view field.now).path [] letters.now) }
 {
-    let mut votes = Vec::with_capacity(field.alloc, letters.len())?;
-    for letter in letters {
-        match vote_of(*letter) {
-            Some(vote) => votes.push(vote)?,
-            None => return Err(field.fault(FaultName::BadVotes)),
-        }
+    if has_other(letters) {
+        return Err(field.fault(FaultName::BadVotes));
+    }
+    let mut votes = vec![in field.alloc; Vote::Commit; letters.len()]?;
+    for place in 0..letters.len() {
+        votes[place] = vote_of(letters[place]);
     }
     Ok(votes)
 }

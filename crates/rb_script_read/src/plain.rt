@@ -1,20 +1,21 @@
 //! A plain script, whose events are held as TOML one at a time: its keys stand first, each on a line, then tables under
 //! headers as `[[client]]`, those of a key in a row, then its turns, each under `[[turn]]`. Any other text is left to the
 //! reader of whole texts, and so is each that has a fault.
-ghost use Rattle.std.specs.Prelude.{◌≡◌, ℕ, List, ◌<◌, ◌≤◌, [], codes, length, string_bytes, IfOk, IfSome, Some, Ok, map};
+ghost use Rattle.std.specs.Prelude.{◌≡◌, ℕ, List, true, ◌<◌, ◌≤◌, [], codes, length, string_bytes, IfOk, IfSome, Some, Ok, map};
 ghost use Rattle.toml_parser.specs.Lexical.{first, skip_ws};
 ghost use Rattle.toml.specs.Data.{Items, no_items, table, push_item, Members};
 ghost use Rattle.toml.specs.View.{view, array_view, table_view};
 ghost use Rattle.toml.specs.Tables.{Document, Nodes, no_nodes, array_table, close};
 ghost use Rattle.toml.specs.Parse as grammar;
 ghost use Rattle.rb_script_types.specs.Script.{script_view, turn_view};
-ghost use Rattle.rb_script_toml.specs.Documents.{whole};
+ghost use Rattle.rb_script_toml.specs.Documents.{max_marks, whole};
 ghost use Rattle.rb_script_toml.specs.Fields.{in_sequence, section_view};
 ghost use Rattle.rb_script_toml.specs.Faults.{Gives};
 ghost use Rattle.rb_script_config.specs.Setups.{setup_view};
 ghost use Rattle.rb_script_read.specs.Events.{event};
 ghost use Rattle.rb_script_read.specs.Front.{values_of, Shortens};
 ghost use Rattle.rb_script_toml.specs.KeyPaths.{child};
+ghost use Rattle.rb_script_toml.specs.Marks.{marks};
 ghost use Rattle.rb_script_read.specs.Names.{Names, names_of};
 ghost use Rattle.rb_script_read.specs.NextTurns.{next_turn_view};
 ghost use Rattle.rb_script_read.specs.Plain.{AreRead, IsKeyRead, IsPair, Leaves, TakesPairs, in_array, in_turn, around, with_events};
@@ -437,11 +438,21 @@ fn read_text(alloc: Global, text: &str) -> Result<Script, NotPlain>
     Ok(script)
 }
 
+/// The most bytes of a text whose marks needn't be counted: each byte has eight at most.
+const FEW_BYTES: usize = 900_000;
+
+/// Whether a text has no more marks than it may have.
+fn has_few_marks(bytes: &[u8]) -> bool
+    ensures { (result ≡ true) → (marks bytes.now ≤ max_marks) }
+{
+    bytes.len() <= FEW_BYTES || count_marks(bytes) <= MAX_MARKS
+}
+
 /// Reads the script of a text that is plain, and has no fault.
 pub(crate) fn read_plain(alloc: Global, bytes: &[u8]) -> Result<Script, NotPlain>
     ensures { IfOk result (λ s. script_of bytes.now ≡ Ok (script_view s)) }
 {
-    if bytes.len() > MAX_BYTES || count_marks(bytes) > MAX_MARKS {
+    if bytes.len() > MAX_BYTES || !has_few_marks(bytes) {
         return Err(NotPlain);
     }
     match std::str::from_utf8(bytes) {

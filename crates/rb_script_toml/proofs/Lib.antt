@@ -1,4 +1,4 @@
 pub mod Steps
 pub mod IdentifierLemmas
 pub mod Documents
-mod MarkLemmas
+pub mod MarkLemmas

@@ -1,5 +1,5 @@
 -- A count of marks, byte by byte.
-use Rattle.std.proofs.Common.{◌≡◌, ◌<◌, ◌≤◌, ◌+◌, ◌==◌, ℕ, List, length, drop, slice_index_or, zero, suc, refl, true, false, Bool, Option, None, Some, ◌||◌, unwrap_or, arith, if◌then◌else◌, ap, ◌∙◌}
+use Rattle.std.proofs.Common.{◌≡◌, ◌<◌, ◌≤◌, ◌+◌, ◌*◌, ◌==◌, ℕ, List, [], ◌∷◌, length, drop, slice_index_or, zero, suc, refl, true, false, Bool, Option, None, Some, ◌||◌, unwrap_or, arith, if◌then◌else◌, ap, ◌∙◌}
 use Rattle.std.proofs.lemmas.List.{at_drop_more, at_drop_all}
 use Rattle.rb_script_toml.specs.declared.marks.Place.{Place}
 use Rattle.rb_script_toml.specs.Marks.{after, counted, may_open, marks_from}
@@ -22,6 +22,14 @@ counted_at_most LineEscape b = omega arith
 counted_at_most (Lines q n) b = omega arith
 counted_at_most LinesEscape b = omega arith
 counted_at_most (Closed q) b = omega arith
+
+pub marks_at_most : (p : Place) (text : List ℕ) → marks_from p text ≤ 8 * length text
+unfolding marks_from
+marks_at_most p [] = omega arith
+marks_at_most p (b ∷ text) =
+    let one = counted_at_most (after p b) b in
+    let rest = marks_at_most (after p b) text in
+    omega (arith, one, rest)
 
 -- the next byte of what is still to come
 pub next_mark : (p : Place) (n : ℕ) (text : List ℕ) → n < length text

@@ -1,10 +1,11 @@
-use Rattle.std.proofs.Common.{◌≡◌, [], drop}
-use Rattle.rb_script_toml.specs.Fields.{field_view}
-use Rattle.rb_script_read.specs.Events.{votes_after}
+use Rattle.std.proofs.Common.{◌≡◌, ℕ, ◌<◌, Some, length, get_or}
+use Rattle.rb_book.specs.declared.vote.Vote.TheVariants.{Commit}
+use Rattle.rb_script_read.specs.Events.{vote_of}
 use Rattle.rb_script_read.proofs.event.votes_of.Given as goal
 
--- what is left is read after what was read
-abbrev pub invariant-loop-letter : goal.invariant-loop-letter
-invariant-loop-letter l =
-    let path = (field_view l.field).path in
-    votes_after path l.votes.items (drop l.letter-index l.letters) ≡ votes_after path [] l.letters
+-- those before the place are read
+abbrev pub invariant-loop-place : goal.invariant-loop-place
+invariant-loop-place l = record {
+  long : length l.votes.items ≡ length l.letters;
+  so_far : (k : ℕ) → k < l.place → vote_of (get_or l.letters k 0) ≡ Some (get_or l.votes.items k Commit);
+}
