@@ -1,10 +1,10 @@
 -- Offers serve for all labels below: records that name one set have the same steps to every header that isn't right above them.
-use Rattle.std.proofs.Common.{◌≡◌, ℕ, ◌+◌, ◌<◌, ◌≤◌, ◌^◌, ◌⊎◌, List, [], ◌∷◌, ◌++◌, length, map, get_or, set, All, true, inl, inr, ap, sym, ◌∙◌, refl, subst, arith, Option, Some, None, IsSome, IsSomeAnd}
+use Rattle.std.proofs.Common.{◌≡◌, ◌↔◌, ℕ, ◌+◌, ◌<◌, ◌≤◌, ◌^◌, ◌⊎◌, List, [], ◌∷◌, ◌++◌, length, map, get_or, set, All, Bool, true, false, IsTrue, inl, inr, ap, sym, ◌∙◌, refl, subst, arith, Option, Some, None, IsSome, IsSomeAnd}
 use Rattle.std.specs.Prelude.{IfSome, MatchOption}
 use Rattle.std.specs.List.{Contains, find, insert, slice_get}
 use Rattle.std.specs.List.Sorted.{IsPermutation}
 use Rattle.std.specs.Option.{option_map, option_map_or}
-use Rattle.std.proofs.lemmas.Bool.{cases_eq, cases_lt}
+use Rattle.std.proofs.lemmas.Bool.{cases_eq, cases_lt, false≢true}
 use Rattle.std.proofs.lemmas.Option.{none-some, same_Some, slice_get-get_or, slice_get_within, get_or_from_slice_get}
 use Rattle.std.proofs.lemmas.Slice.Eq.{bytes_eq-Decides}
 use Rattle.std.specs.Str.{bytes_eq}
@@ -200,6 +200,32 @@ added_push book before new = record {
 module _ (v : View) (view : IsView v) where
   recorded : (p : ℕ) (k : RecordAt) → slice_get v.book.records p ≡ Some k → record_at v.book k.height ≡ Some k.record_of
   recorded p k at = ap (option_map (λ (k : RecordAt). k.record_of)) (find-In height_of k v.book.records (heights_up v.book view.book) (in_at v.book.records p k at))
+
+  lasts_live : (p : ℕ) (k : RecordAt) → slice_get v.book.records p ≡ Some k → (v.window.until < k.record_of.time + v.options.period) ↔ (client_of v).IsLive k.height
+  unfolding client_of
+  lasts_live p k at = (λ lasts. rw (recorded p k at) lasts, λ live. rw (recorded p k at) at live)
+
+  read_at : (p : ℕ) (k : RecordAt) → p < length v.book.records → k ≡ get_or v.book.records p k → slice_get v.book.records p ≡ Some k
+  read_at p k inside is = slice_get-get_or v.book.records p k inside ∙ ap (λ (x : RecordAt). Some x) (sym is)
+
+  -- where a record lasts, its height is stored and live if it is stored
+  pub source_read : (p : ℕ) (k : RecordAt) → p < length v.book.records → k ≡ get_or v.book.records p k → (r : Record) → r ≡ k.record_of
+      → (lasts : Bool) → (IsTrue lasts ↔ (v.window.until < r.time + v.options.period)) → lasts ≡ true
+      → (stored : Bool) → (IsTrue stored ↔ Contains (client_of v).stored k.height)
+      → IsSomeAnd (slice_get v.book.records p) (λ x. IsTrue stored ↔ IsSource (client_of v) x.height)
+  source_read p k inside is r e lasts tells holds stored stands =
+      let at = read_at p k inside is in
+      let live : (client_of v).IsLive k.height = (lasts_live p k at).0 (subst (λ (x : Record). v.window.until < x.time + v.options.period) e (tells.0 holds)) in
+      subst (λ (o : Option RecordAt). IsSomeAnd o (λ x. IsTrue stored ↔ IsSource (client_of v) x.height)) (sym at) (λ true. (stands.0 true, live), λ source. stands.1 source.0)
+
+  -- where it doesn't, it isn't
+  pub no_source_read : (p : ℕ) (k : RecordAt) → p < length v.book.records → k ≡ get_or v.book.records p k → (r : Record) → r ≡ k.record_of
+      → (lasts : Bool) → (IsTrue lasts ↔ (v.window.until < r.time + v.options.period)) → lasts ≡ false
+      → IsSomeAnd (slice_get v.book.records p) (λ x. IsTrue false ↔ IsSource (client_of v) x.height)
+  no_source_read p k inside is r e lasts tells fails =
+      let at = read_at p k inside is in
+      subst (λ (o : Option RecordAt). IsSomeAnd o (λ x. IsTrue false ↔ IsSource (client_of v) x.height)) (sym at)
+      (λ e'. absurd (false≢true e'), λ source. absurd (false≢true (sym fails ∙ tells.1 (subst (λ (x : Record). v.window.until < x.time + v.options.period) (sym e) ((lasts_live p k at).1 source.1)))))
 
   -- a higher record is later
   later : (p : ℕ) (k : RecordAt) (h : ℕ) (r : Record) → slice_get v.book.records p ≡ Some k → record_at v.book h ≡ Some r → k.height < h → k.record_of.time < r.time

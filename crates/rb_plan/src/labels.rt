@@ -87,16 +87,21 @@ impl<A: Allocator + Copy> Planner<'_, A> {
     }
 
     /// The cost of the height of the record at a place by the offers below it, of which the one at
-    /// place `first` is tried first; so many headers are below the height, as far as is known.
-    fn cost_of(&self, offers: &[Offer], first: usize, place: usize, headers: usize) -> Option<Cost>
+    /// place `first` is tried first; so many headers and stored heights are below the height, as far as is known.
+    fn cost_of(
+        &self,
+        offers: &[Offer],
+        first: usize,
+        place: usize,
+        headers: usize,
+        stored: usize,
+    ) -> Option<Cost>
         requires offers { All (IsOffer self.now.book) offers.now }
         requires place { place < length self.now.book.records }
         ensures { IsSomeAnd (slice_get self.now.book.records place) (λ k. OffersLead (client_of self.now) offers.now k.height
             (λ label. IsRaised (client_of self.now) label k.height result)) }
     {
-        let records = self.records();
-        let height = records[place].height();
-        if self.is_source(height) {
+        if self.is_source_at(place, stored) {
             return Some(Cost::ZERO);
         }
         let target = self.target_at(place, headers);
@@ -111,6 +116,14 @@ impl<A: Allocator + Copy> Planner<'_, A> {
         }
     }
 
+    /// How many stored heights there are up to the height, where so many are below it.
+    fn stored_up_to(&self, below: usize, height: Height) -> usize {
+        match self.stored().get(below) {
+            Some(stored) if *stored == height => below.saturating_add(1),
+            _ => below,
+        }
+    }
+
     /// The exact labelling.
     pub fn label(&self, alloc: A) -> Result<Labelling<A>, AllocError>
         ensures exact { IfOk result (λ labelling. IsExact (client_of self.now) (label_of labelling)) }
@@ -119,17 +132,18 @@ impl<A: Allocator + Copy> Planner<'_, A> {
         let records = self.records();
         let mut labels = Vec::new(alloc);
         let mut offers = Vec::new(alloc);
-        let (mut cheapest, mut headers) = (0, 0);
+        let (mut cheapest, mut headers, mut stored) = (0, 0, 0);
         let mut by_set = vec![in alloc; None; self.book().sets().len() + 1]?;
         for place in 0..records.len() {
             let height = records[place].height();
-            if let Some(cost) = self.cost_of(offers.as_slice(), cheapest, place, headers) {
+            if let Some(cost) = self.cost_of(offers.as_slice(), cheapest, place, headers, stored) {
                 let label = Label { height, cost };
                 let offer = Offer { place, label };
                 self.add_offer(&mut offers, by_set.as_mut_slice(), &mut cheapest, offer)?;
                 labels.push(label)?;
             }
             headers = self.headers_up_to(headers, height);
+            stored = self.stored_up_to(stored, height);
         }
         Ok(Labelling::new(labels)?)
     }

@@ -1,5 +1,5 @@
 //! The labelled records from which steps are tried: of those that name one set the cheapest.
-ghost use Rattle.std.specs.Prelude.{◌≡◌, ◌↔◌, ◌<◌, ◌≤◌, IsTrue, All, OnOk, Some, IfSome, IsSomeAnd, length, set, slice_get};
+ghost use Rattle.std.specs.Prelude.{◌≡◌, ◌↔◌, ◌<◌, ◌≤◌, IsTrue, All, IfOk, OnOk, Some, IfSome, IsSomeAnd, length, set, slice_get};
 ghost use Rattle.std.specs.Option.{option_flatten};
 ghost use Rattle.rb_plan_types.specs.Order.{IsCheaper};
 ghost use Rattle.rb_plan.specs.Offers.{IsOffer, NamesSame, IsTakenIn, IsAdded, next_slot};
@@ -115,6 +115,66 @@ impl<A: Allocator + Copy> Planner<'_, A> {
         None
     }
 
+    /// Where an offer stands whose record names the same set as the record at a place, or else the slot of
+    /// that set. The cheapest offer is looked at first.
+    fn find_same(
+        &self,
+        offers: &[Offer],
+        by_set: &[Option<usize>],
+        cheapest: usize,
+        place: usize,
+    ) -> Result<usize, usize>
+        requires offers { All (IsOffer self.now.book) offers.now }
+        requires place { place < length self.now.book.records }
+        ensures { IfOk result (λ at. IsSomeAnd (slice_get offers.now at)
+            (λ o. NamesSame self.now.book o.place place × NamesSame self.now.book place o.place)) }
+    {
+        if let Some(at) = self.same_set(offers, Some(cheapest), place) {
+            return Ok(at);
+        }
+        let slot = self.next_slot(place);
+        self.same_set(offers, kept_at(by_set, slot), place)
+            .ok_or(slot)
+    }
+
+    /// Puts an offer in where none names its set, which has this slot.
+    fn put_in(
+        &self,
+        offers: &mut Vec<Offer, A>,
+        by_set: &mut [Option<usize>],
+        cheapest: &mut usize,
+        slot: usize,
+        offer: Offer,
+    ) -> Result<(), AllocError>
+        ensures { OnOk result (IsTakenIn self.now.book offers.old.items offer offers.new.items) }
+    {
+        let cost = offer.label.cost;
+        let at = place_for(by_set, slot, offers.len());
+        offers.insert(at, offer)?;
+        keep_put_in(by_set, slot, at);
+        keep_cheapest(cheapest, offers.as_slice(), at, cost, true);
+        Ok(())
+    }
+
+    /// Puts an offer in the place of one whose record names the same set, where it costs less.
+    fn take_cheaper(
+        &self,
+        offers: &mut Vec<Offer, A>,
+        cheapest: &mut usize,
+        at: usize,
+        offer: Offer,
+    )
+        requires { IsSomeAnd (slice_get offers.old.items at)
+            (λ o. NamesSame self.now.book o.place offer.place × NamesSame self.now.book offer.place o.place) }
+        ensures { IsTakenIn self.now.book offers.old.items offer offers.new.items }
+    {
+        let cost = offer.label.cost;
+        if is_cheaper(cost, offers.as_slice(), at) {
+            offers[at] = offer;
+            keep_cheapest(cheapest, offers.as_slice(), at, cost, false);
+        }
+    }
+
     /// Takes an offer in. Where there is one whose record names the same set, the cheaper of the two
     /// stays; `by_set` tells by the set's slot where to look for it, and `cheapest` where the cheapest
     /// of all stands.
@@ -129,20 +189,13 @@ impl<A: Allocator + Copy> Planner<'_, A> {
         requires offer { IsOffer self.now.book offer }
         ensures { OnOk result (IsTakenIn self.now.book offers.old.items offer offers.new.items) }
     {
-        let cost = offer.label.cost;
-        let slot = self.next_slot(offer.place);
-        let Some(at) = self.same_set(offers.as_slice(), kept_at(by_set, slot), offer.place) else {
-            let at = place_for(by_set, slot, offers.len());
-            offers.insert(at, offer)?;
-            keep_put_in(by_set, slot, at);
-            keep_cheapest(cheapest, offers.as_slice(), at, cost, true);
-            return Ok(());
-        };
-        if is_cheaper(cost, offers.as_slice(), at) {
-            offers[at] = offer;
-            keep_cheapest(cheapest, offers.as_slice(), at, cost, false);
+        match self.find_same(offers.as_slice(), by_set, *cheapest, offer.place) {
+            Ok(at) => {
+                self.take_cheaper(offers, cheapest, at, offer);
+                Ok(())
+            }
+            Err(slot) => self.put_in(offers, by_set, cheapest, slot, offer),
         }
-        Ok(())
     }
 
     /// Adds the offer of a record above all others. The one before is taken in only now, since a

@@ -1,5 +1,5 @@
 //! What the planner looks up.
-ghost use Rattle.std.specs.Prelude.{◌≡◌, ◌↔◌, ◌<◌, IfSome, IsSomeAnd, IsTrue, length, slice_get};
+ghost use Rattle.std.specs.Prelude.{◌≡◌, ◌↔◌, ◌<◌, ◌+◌, Contains, IfSome, IsSomeAnd, IsTrue, length, slice_get};
 ghost use Rattle.rb_book.specs.Book.{heights_of};
 ghost use Rattle.rb_graph.specs.StepTable.{IsStepFee};
 ghost use Rattle.rb_step.specs.Fee.{fee_limit};
@@ -9,7 +9,7 @@ ghost use Rattle.rb_plan_types.specs.Lookups.{AreAllKnown};
 ghost use Rattle.rb_plan.specs.Offers.{target_of};
 
 use rb_base::{Height, Ties};
-use rb_book::{ChainBook, RecordAt, record_place};
+use rb_book::{ChainBook, Record, RecordAt, record_place};
 use rb_graph::{Graph, Target};
 use rb_step::ClientView;
 use rb_step::laws::views_are_orderly;
@@ -78,11 +78,45 @@ impl<'a, A: Allocator + Copy> Planner<'a, A> {
         self.view.ties()
     }
 
-    /// Whether the height is stored and live before any update.
-    pub fn is_source(&self, height: Height) -> bool
-        ensures { IsTrue result ↔ IsSource (client_of self.now) height }
+    /// The heights that the client has stored, rising.
+    pub fn stored(&self) -> &'a [Height]
+        ensures { result.now ≡ self.now.stored }
     {
-        self.view.is_source(height)
+        self.view.stored()
+    }
+
+    /// Whether the height is stored. It is looked for at a place among the stored ones first.
+    fn is_stored(&self, height: Height, at: usize) -> bool
+        ensures { IsTrue result ↔ Contains (client_of self.now).stored height }
+    {
+        let stored = self.stored();
+        if at < stored.len() && stored[at] == height {
+            return true;
+        }
+        self.view.is_stored(height)
+    }
+
+    /// Whether a record doesn't expire in the window (ICS 7, trusting period).
+    fn outlives(&self, known: &Record) -> bool
+        ensures { IsTrue result ↔ self.now.window.until < known.now.time + self.now.options.period }
+    {
+        let period = u128::from(self.view.options().period().nanoseconds());
+        known.time().nanoseconds() + period > self.view.window().until().nanoseconds()
+    }
+
+    /// Whether the height of the record at a place is stored and live before any update. It is looked for
+    /// at the place `stored` among the stored heights first.
+    pub fn is_source_at(&self, place: usize, stored: usize) -> bool
+        requires { place < length self.now.book.records }
+        ensures { IsSomeAnd (slice_get self.now.book.records place) (λ k. IsTrue result ↔ IsSource (client_of self.now) k.height) }
+    {
+        let records = self.records();
+        let known = records[place];
+        if self.outlives(known.record()) {
+            self.is_stored(known.height(), stored)
+        } else {
+            false
+        }
     }
 
     /// The height, for single steps into it.

@@ -1,8 +1,8 @@
 -- The greatest live height of those so far.
-use Rattle.std.proofs.Common.{◌≡◌, ℕ, ◌+◌, ◌<◌, ◌≤◌, ◌⊎◌, List, [], ◌∷◌, ◌++◌, length, get_or, take, inl, inr, ap, sym, ◌∙◌, refl, subst, arith, Option, Some, None, IsSomeAnd, IfSome}
+use Rattle.std.proofs.Common.{◌≡◌, ℕ, ◌+◌, ◌<◌, ◌≤◌, ◌⊎◌, List, [], ◌∷◌, ◌++◌, zero, suc, length, get_or, take, drop, inl, inr, ap, sym, ◌∙◌, refl, subst, arith, Option, Some, None, IsSomeAnd, IfSome}
 use Rattle.std.specs.List.{Contains}
-use Rattle.std.proofs.lemmas.List.{take_more, take_all}
-use Rattle.std.proofs.lemmas.List.Elements.{Contains-push, Contains-push_cases, Contains-append_left}
+use Rattle.std.proofs.lemmas.List.{take_more, drop_all, drop_more}
+use Rattle.std.proofs.lemmas.List.Elements.{Contains-append_right, Contains-get_or}
 use Rattle.rb_step.specs.LightClient.{Update, Client, IsStoredAfter}
 use Rattle.rb_step.specs.View.{View, client_of}
 use Rattle.rb_plan_types.specs.ProofHeight.{IsLaterLive}
@@ -63,22 +63,33 @@ stored_push_cases client (v ∷ us) u h (inr s) = go (stored_push_cases client u
     go (inr e) = inr e
 
 module _ (client : Client) where
-  -- after the first n of the stored heights
+  -- of the stored heights from place n on
   abbrev pub IsTopOfStored : List ℕ → ℕ → Option ℕ → Type 0
-  IsTopOfStored stored n top = IsTopOf client (Contains (take n stored)) top
+  IsTopOfStored stored n top = IsTopOf client (Contains (drop n stored)) top
 
   -- after all of them and the first n updates
   abbrev pub IsTopAfter : List Update → ℕ → Option ℕ → Type 0
   IsTopAfter us n top = IsTopOf client (IsStoredAfter client (take n us)) top
 
-  pub top_stored_more : (stored : List ℕ) (n h : ℕ) (top next : Option ℕ) → n < length stored → h ≡ get_or stored n h → IsLaterLive client top h next → IsTopOfStored stored n top → IsTopOfStored stored (n + 1) next
-  top_stored_more stored n h top next inside read later so_far =
-      subst (λ (xs : List ℕ). IsTopOf client (Contains xs) next) (sym (take_more stored n h inside ∙ ap (λ (x : ℕ). take n stored ++ x ∷ []) (sym read)))
-      (top_more client (Contains (take n stored)) (Contains (take n stored ++ h ∷ [])) h top next (λ k s. Contains-append_left (take n stored) (h ∷ []) k s)
-      (Contains-push (take n stored) h) (λ k s. Contains-push_cases (take n stored) h k s) later so_far)
+  pub top_stored_none : (stored : List ℕ) (n : ℕ) → length stored ≤ n → IsTopOfStored stored n None
+  top_stored_none stored n all = record {
+    seen = tt;
+    live = tt;
+    greatest = λ h s. absurd (none h (subst (λ (xs : List ℕ). Contains xs h) (drop_all n stored all) s));
+  }
+    where
+      none : (h : ℕ) → Contains [] h → ⊥
+      none h (i, inside, read) = omega arith
 
-  pub top_after_none : (us : List Update) (n : ℕ) (top : Option ℕ) → length client.stored ≤ n → IsTopOfStored client.stored n top → IsTopAfter us 0 top
-  top_after_none us n top all so_far = subst (λ (xs : List ℕ). IsTopOf client (Contains xs) top) (take_all n client.stored all) so_far
+  pub top_stored_more : (stored : List ℕ) (n h : ℕ) (top next : Option ℕ) → n < length stored → h ≡ get_or stored n h → IsLaterLive client top h next → IsTopOfStored stored (n + 1) top → IsTopOfStored stored n next
+  top_stored_more stored n h top next inside read later so_far =
+      subst (λ (xs : List ℕ). IsTopOf client (Contains xs) next) (sym (drop_more stored n h inside ∙ ap (λ (x : ℕ). x ∷ drop (n + 1) stored) (sym read)))
+      (top_more client (Contains (drop (n + 1) stored)) (Contains (h ∷ drop (n + 1) stored)) h top next (λ k s. Contains-append_right (h ∷ []) (drop (n + 1) stored) k s)
+      (Contains-get_or (h ∷ drop (n + 1) stored) 0 h (omega arith)) (λ k s. first_or_rest (drop (n + 1) stored) k s) later so_far)
+    where
+      first_or_rest : (xs : List ℕ) (k : ℕ) → Contains (h ∷ xs) k → Contains xs k ⊎ (h ≡ k)
+      first_or_rest xs k (zero, inside, is) = inr is
+      first_or_rest xs k (suc i, inside, is) = inl (i, omega arith, is)
 
   pub top_after_more : (us : List Update) (n : ℕ) (u : Update) (top next : Option ℕ) → n < length us → u ≡ get_or us n u → IsLaterLive client top u.height next → IsTopAfter us n top → IsTopAfter us (n + 1) next
   top_after_more us n u top next inside read later so_far =

@@ -25,12 +25,10 @@ fn later_live<A: Allocator + Copy>(
 ) -> Option<Height>
     ensures { IsLaterLive (client_of view.now) top height result }
 {
-    if !view.is_live(height) {
-        return top;
-    }
     match top {
         Some(top) if height <= top => Some(top),
-        _ => Some(height),
+        _ if view.is_live(height) => Some(height),
+        _ => top,
     }
 }
 
@@ -39,9 +37,10 @@ fn later_live<A: Allocator + Copy>(
 pub fn proof_height<A: Allocator + Copy>(view: &ClientView<A>, updates: &[Update]) -> Option<Height>
     ensures { IsProofHeight (client_of view.now) updates.now result }
 {
+    let stored = view.stored();
     let mut top = None;
-    for height in view.stored() {
-        top = later_live(view, top, *height);
+    for place in (0..stored.len()).rev() {
+        top = later_live(view, top, stored[place]);
     }
     for update in updates {
         top = later_live(view, top, update.height());

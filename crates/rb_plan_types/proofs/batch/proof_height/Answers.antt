@@ -1,24 +1,31 @@
-use Rattle.std.proofs.Common.{◌≡◌, ◌∙◌, ◌<◌, ◌≤◌, List, ℕ, length, get_or, sym, subst, ap, arith}
+use Rattle.std.proofs.Common.{◌≡◌, ◌∙◌, ◌+◌, ◌-◌, ◌<◌, List, ℕ, length, get_or, sym, subst, ap, arith}
 use Rattle.rb_step.specs.View.{client_of}
 use Rattle.rb_plan_types.specs.ProofHeight.{IsLaterLive}
-use Rattle.rb_plan_types.proofs.Tops.{top_stored_more, top_after_none, top_after_more, stored_of_view}
+use Rattle.rb_plan_types.proofs.Tops.{IsTopOfStored, top_stored_none, top_stored_more, top_after_more, stored_of_view}
 use Rattle.rb_plan_types.proofs.batch.proof_height.Goals as goal
 
-pub loop-height-preserved : goal.loop-height-preserved
-loop-height-preserved g c =
+pub loop-place-init : goal.loop-place-init
+loop-place-init g c =
     let client = client_of c.args.view.now in
-    let n = c.loop-height.height-index in
-    let h = c.height-item.result in
-    let same : c.stored-height-items.result.now ≡ client.stored = c.stored-height-items.ensures.value ∙ sym (stored_of_view c.args.view.now) in
+    let same : c.stored-stored.result.now ≡ client.stored = c.stored-stored.ensures.value ∙ sym (stored_of_view c.args.view.now) in
+    top_stored_none client client.stored _ (omega (arith, ap length same))
+
+pub loop-place-preserved : goal.loop-place-preserved
+loop-place-preserved g c =
+    let client = client_of c.args.view.now in
+    let n = c.loop-place.place - 1 in
+    let h = c.index-stored-place.result in
+    let same : c.stored-stored.result.now ≡ client.stored = c.stored-stored.ensures.value ∙ sym (stored_of_view c.args.view.now) in
     let inside : n < length client.stored = omega (arith, ap length same) in
-    top_stored_more client client.stored n h c.loop-height.top c.later_live-top.result inside (c.height-item.is ∙ ap (λ (xs : List ℕ). get_or xs n h) same) c.later_live-top.ensures c.loop-height.invariant
+    let here : n + 1 ≡ c.loop-place.place = omega arith in
+    top_stored_more client client.stored n h c.loop-place.top c.later_live-top.result inside (c.index-stored-place.is ∙ ap (λ (xs : List ℕ). get_or xs n h) same) c.later_live-top.ensures
+    (subst (λ (i : ℕ). IsTopOfStored client client.stored i c.loop-place.top) (sym here) c.loop-place.invariant)
 
 pub loop-update-init : goal.loop-update-init
 loop-update-init g c =
     let client = client_of c.args.view.now in
-    let same : c.stored-height-items.result.now ≡ client.stored = c.stored-height-items.ensures.value ∙ sym (stored_of_view c.args.view.now) in
-    let all : length client.stored ≤ c.loop-height.height-index = omega (arith, ap length same) in
-    top_after_none client c.args.updates.now c.loop-height.height-index c.loop-height.top all c.loop-height.invariant
+    let start : c.loop-place.place ≡ 0 = omega arith in
+    subst (λ (i : ℕ). IsTopOfStored client client.stored i c.loop-place.top) start c.loop-place.invariant
 
 pub loop-update-preserved : goal.loop-update-preserved
 loop-update-preserved g c =
