@@ -1,8 +1,7 @@
 //! Laws of the relayer, over the definitions alone.
 ghost use Rattle.rb_core_model.specs.Batches.{Batches, BatchesAreRight, MessagesAreInOneBatch, MessagesStandOnce, SettledMessagesAreGone};
 ghost use Rattle.rb_core_model.specs.Examples.{Examples};
-ghost use Rattle.rb_core_model.specs.Log.{StatesAreOfLogs};
-ghost use Rattle.rb_core_model.specs.Steps.{JudgedByStanding, PresentScansAreAccepted, ScansLast, PresentDraftsAreAccepted, AcceptedDraftsAreOfTheMoment};
+ghost use Rattle.rb_core_model.specs.Steps.{JudgedByStanding};
 ghost use Rattle.rb_core_model.specs.Views.{ClientViewsAreViews};
 
 use rb_book::laws::{finds_what_was_added, stays_a_book};
@@ -72,29 +71,4 @@ pub fn client_views_are_views()
 /// What comes from outside is judged by how things stand.
 pub fn judged_by_standing()
     ensures { JudgedByStanding }
-{}
-
-/// A path's part that has no valid scan is scanned as the path is.
-pub fn present_scans_are_accepted()
-    ensures { PresentScansAreAccepted }
-{}
-
-/// A scan lasts, and leaves how things stand.
-pub fn scans_last()
-    ensures { ScansLast }
-{}
-
-/// A draft that is made for a client as it is seen is accepted.
-pub fn present_drafts_are_accepted()
-    ensures { PresentDraftsAreAccepted }
-{}
-
-/// A draft that is accepted was made for what its client is to be brought to as things stand.
-pub fn accepted_drafts_are_of_the_moment()
-    ensures { AcceptedDraftsAreOfTheMoment }
-{}
-
-/// A state is that of its log, the events that were accepted.
-pub fn states_are_of_logs()
-    ensures { StatesAreOfLogs }
 {}
