@@ -1,28 +1,22 @@
--- The report of a script as JSON, and when its clients expire after its last turn.
-use Rattle.std.specs.Prelude.{◌≡◌, ℕ, Bool, List, ◌++◌, map, if◌then◌else◌}
-use Rattle.std.specs.List.{enumerate_from, flat_map}
+-- The report of a script as JSON, with when its clients expire.
+use Rattle.std.specs.Prelude.{◌≡◌, ℕ, Bool, List, ◌++◌, codes}
 use Rattle.std.specs.declared.alloc.Global.{Global}
-use Rattle.rb_core.specs.Core.{Core, state_in}
-use Rattle.rb_text_report.specs.Health.{health_in}
-use Rattle.rb_text_report.specs.Lines.{HasClients, line_text}
-use Rattle.rb_text_report.specs.Metrics.{client_text, head}
+use Rattle.rb_text_report.specs.Lines.{clients_members}
 use Rattle.rb_text_report.specs.declared.health.ClientHealth.{ClientHealth}
 use Rattle.rb_script_config.specs.Paths.{path_ids}
+use Rattle.rb_script_text.specs.Json.{json_text, object}
 use Rattle.rb_script_types.specs.Script.{Script}
+use Rattle.rb_script_types.specs.declared.version.Version.{Version}
 use Rattle.rb_super_turn.specs.AsEvents.{as_events}
-use Rattle.rb_super_turn.specs.Judging.{IsEndOf}
-use Rattle.rb_super_turn.specs.Phases.{standing_in}
 use Rattle.rb_super_turn.specs.Report.{Report}
 use Rattle.rb_super_turn.specs.Turns.{IsReportOf}
-use Rattle.rb_text_export.specs.ReportJson.{report_line}
+use Rattle.rb_text_export.specs.ReportJson.{report_members}
+use Rattle.rb_text.specs.Healths.{AreHealthsOf}
 use Rattle.ibcplan.specs.Status.{plan_status}
 
--- these are the clients of the relayer after the script, each with when it expires
-pub record AreHealthsOf (script : Script Global) (clients : List ClientHealth) : Type 0 where
-  pub relayer : Core
-  pub config : relayer.config ≡ script.config
-  pub ended : IsEndOf (as_events script) (standing_in relayer)
-  pub clients_are : clients ≡ map (health_in (state_in relayer)) (enumerate_from 0 relayer.config.clients)
+-- a report as one object of JSON, whose last member tells when its clients expire, and a line feed
+abbrev pub report_line : Version → List (List ℕ) → List (List ℕ) → Report → List ClientHealth → List ℕ
+report_line version chains paths report clients = json_text (object (report_members version chains paths report ++ clients_members clients)) ++ codes "\n"
 
 -- the text is the JSON of the script's report, with these clients; the status is the report's
 pub record IsJsonOf (is_strict : Bool) (script : Script Global) (text : List ℕ) (status : ℕ) : Type 0 where
@@ -30,11 +24,5 @@ pub record IsJsonOf (is_strict : Bool) (script : Script Global) (text : List ℕ
   pub clients : List ClientHealth
   pub reported : IsReportOf (as_events script) report
   pub healths : AreHealthsOf script clients
-  pub written : HasClients (report_line script.config.version script.config.chains (path_ids script.config.paths) report) clients text
+  pub written : text ≡ report_line script.config.version script.config.chains (path_ids script.config.paths) report clients
   pub ends : status ≡ plan_status is_strict report
-
--- the text has a line for each client, or its metrics
-pub record IsHealthOf (are_metrics : Bool) (script : Script Global) (text : List ℕ) : Type 0 where
-  pub clients : List ClientHealth
-  pub healths : AreHealthsOf script clients
-  pub written : text ≡ (if are_metrics then head ++ flat_map (client_text script.config.chains) clients else flat_map line_text clients)

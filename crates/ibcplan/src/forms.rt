@@ -1,16 +1,18 @@
 //! The report of a script in other forms than its own: JSON, and the commands that submit its updates.
-ghost use Rattle.std.specs.Prelude.{IfOk, string_bytes};
+ghost use Rattle.std.specs.Prelude.{◌≡◌, IfOk, string_bytes};
 ghost use Rattle.rb_script_types.specs.Script.{script_view, IsReadScript};
-ghost use Rattle.ibcplan.specs.Forms.{IsJsonOf};
+ghost use Rattle.rb_super_turn.specs.Views.{report_view};
+ghost use Rattle.ibcplan.specs.Forms.{IsJsonOf, report_line};
 
 use crate::reporting::plan_status;
 use ibcplan_cli::{ProgramError, Shown, Turns, WantedTurns, WorkerCount};
 use rb_base::Gate;
 use rb_script_types::Script;
 use rb_super::run_to_end;
+use rb_super_turn::Report;
 use rb_text::{report_of, shares_of};
-use rb_text_export::{Setting, commands_of, json_of};
-use rb_text_report::{healths_of, with_health};
+use rb_text_export::{Setting, commands_of, push_report};
+use rb_text_report::{ClientHealth, healths_of, push_clients};
 use std::alloc::{AllocError, Global};
 use std::sync::{Arc, Wait};
 use std::thread::Threads;
@@ -38,11 +40,21 @@ pub fn json_of_script<R: Threads + Sync, G: Gate + Sync>(
     let threads = shares_of(alloc, &script)?.table_threads(workers.count());
     let (report, relayer) = run_to_end(rt, alloc, script, threads, gate)?;
     let clients = healths_of(alloc, &relayer)?;
-    let json = json_of(alloc, &report)?;
     Ok(JsonText {
-        text: with_health(alloc, json.as_str(), clients.as_slice())?,
+        text: json_of(alloc, &report, clients.as_slice())?,
         status: plan_status(is_strict, &report),
     })
+}
+
+/// A report as one object of JSON, with when its clients expire, and a line feed.
+fn json_of(alloc: Global, report: &Report, clients: &[ClientHealth]) -> Result<String, AllocError>
+    ensures { IfOk result (λ text. string_bytes text ≡ report_line report.now.version report.now.chains.items report.now.paths.items (report_view report.now) clients.now) }
+{
+    let mut text = String::from_str(alloc, "{")?;
+    push_report(&mut text, report)?;
+    push_clients(&mut text, clients)?;
+    text.push_str("}\n")?;
+    Ok(text)
 }
 
 /// The commands for the plans of the script of a file, of the turns that are wanted: one that is numbered has to be there; the

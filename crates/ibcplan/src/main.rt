@@ -9,7 +9,6 @@ mod first_text;
 mod following;
 mod forms;
 mod given;
-mod health;
 mod host;
 mod journal;
 mod messages;
@@ -17,7 +16,6 @@ mod parcel;
 mod perform;
 mod reporting;
 mod searching;
-mod verdict;
 
 use host::Host;
 use ibcplan_cli::{no_memory, request_of, status};

@@ -11,12 +11,10 @@ use crate::first_text::{FirstText, first_text, last_text};
 use crate::following::{follow, follow_from};
 use crate::forms::{commands_of_script, json_of_script};
 use crate::given::{GivenScript, given_script, script_of_text};
-use crate::health::health_of_script;
 use crate::host::Host;
 use crate::journal::{OpenedJournal, open_journal};
 use crate::messages::{MessageLines, messages_of};
 use crate::reporting::{plan_status, refused_events};
-use crate::verdict::verdict_json;
 use ibcplan_cli::{
     Explained, Following, Given, Import, Input, ProgramError, Progress, Request, STANDARD_INPUT,
     Shown, Wanted, WantedTurns, WorkerCount, setup_for, status,
@@ -27,7 +25,8 @@ use rb_follow::{Form as AnswerForm, NoJournal, greeting, json_of_fault};
 use rb_import_setup::NamedClient;
 use rb_script_toml::RunError;
 use rb_script_types::{Script, Version};
-use rb_text::{certify_script, write_report_of};
+use rb_text::{certify_script, health_of_script, write_report_of};
+use rb_text_report::verdict_json;
 use std::alloc::Global;
 use std::io;
 use std::io::{Cursor, Printer, Read, Write};

@@ -1,6 +1,6 @@
 //! The arcs of a picture: updates, steps that are refused, and what a light client's bisection sends.
 use crate::columns::{Columns, MOST_REFUSED, is_drawn, is_other_drawn};
-use crate::names::answer_name;
+use crate::steps::answer_name;
 use crate::svg::{Anchor, Arc, push_arc, push_label};
 use rb_base::Height;
 use rb_explain::{ClientExplanation, PlanExplanation, StepExplanation, Why};
@@ -112,8 +112,7 @@ impl<'a> Arcs<'a> {
         let Some(step) = step else {
             return Ok(());
         };
-        let fee = step.fee;
-        let words = format!(in self.alloc; "fee {fee}")?;
+        let words = format!(in self.alloc; "fee {}", step.fee)?;
         self.add(step.trusted, step.height, Meaning::Update, words)
     }
 
@@ -134,13 +133,11 @@ impl<'a> Arcs<'a> {
         };
         match step.answer {
             Verdict::Success => {
-                let fee = step.fee;
-                let words = format!(in self.alloc; "one update: fee {fee}")?;
+                let words = format!(in self.alloc; "one update: fee {}", step.fee)?;
                 self.add(step.trusted, step.height, Meaning::Accepted, words)
             }
             answer => {
-                let name = answer_name(answer);
-                let words = format!(in self.alloc; "refused: {name}")?;
+                let words = format!(in self.alloc; "refused: {}", answer_name(answer))?;
                 self.add(step.trusted, step.height, Meaning::Refused, words)
             }
         }
@@ -187,14 +184,8 @@ impl<'a> Arcs<'a> {
             let arc = self.arc(drawn, above, below);
             if !drawn.words.is_empty() {
                 let y = arc.summit().saturating_sub(4);
-                push_label(
-                    text,
-                    arc.middle(),
-                    y,
-                    Anchor::Middle,
-                    "",
-                    drawn.words.as_str(),
-                )?;
+                let words = drawn.words.as_str();
+                push_label(text, arc.middle(), y, Anchor::Middle, "", words)?;
             }
         }
         Ok(())

@@ -85,12 +85,8 @@ fn push_band(
     to: u64,
     y: u64,
 ) -> Result<(), AllocError> {
-    let area = Area {
-        x: from.saturating_add(1),
-        y,
-        width: to.saturating_sub(from).saturating_sub(2),
-        height: 16,
-    };
+    let width = to.saturating_sub(from).saturating_sub(2);
+    let area = Area::new(from.saturating_add(1), y, width, 16);
     let middle = from.saturating_add(to) / 2;
     let below = y.saturating_add(12);
     match signer {
@@ -151,12 +147,7 @@ fn push_height(
     x: u64,
     y: u64,
 ) -> Result<(), AllocError> {
-    let area = Area {
-        x: x.saturating_sub(5),
-        y: y.saturating_sub(5),
-        width: 10,
-        height: 10,
-    };
+    let area = Area::new(x.saturating_sub(5), y.saturating_sub(5), 10, 10);
     match stored_at(client, known) {
         Some(stored) if stored.expiry > client.window.until().nanoseconds() => {
             push_box(text, "full", area)?;
@@ -168,27 +159,17 @@ fn push_height(
         }
         None => push_circle(text, x, y)?,
     }
-    let height = known.height;
-    let words = format!(in alloc; "{height}")?;
-    push_label(
-        text,
-        x,
-        y.saturating_add(20),
-        Anchor::Middle,
-        "",
-        words.as_str(),
-    )
+    let words = known.height.to_string(alloc)?;
+    let below = y.saturating_add(20);
+    push_label(text, x, below, Anchor::Middle, "", words.as_str())
 }
 
 /// How many of a column's heights are stored.
 fn stored_in(client: &ClientExplanation, column: &Column) -> usize {
-    let mut count: usize = 0;
-    for known in client.heights.iter().skip(column.first).take(column.count) {
-        if stored_at(client, known).is_some() {
-            count = count.saturating_add(1);
-        }
-    }
-    count
+    let heights = client.heights.iter().skip(column.first).take(column.count);
+    heights
+        .filter(|known| stored_at(client, known).is_some())
+        .count()
 }
 
 /// Adds a column that stands for several heights: how many they are, and how many of them are stored.
@@ -199,29 +180,15 @@ fn push_others(
     column: &Column,
     y: u64,
 ) -> Result<(), AllocError> {
-    let count = column.count;
-    let words = format!(in alloc; "{count} more")?;
+    let x = column.middle;
+    let words = format!(in alloc; "{} more", column.count)?;
     let below = y.saturating_add(20);
-    push_label(
-        text,
-        column.middle,
-        below,
-        Anchor::Middle,
-        "note",
-        words.as_str(),
-    )?;
+    push_label(text, x, below, Anchor::Middle, "note", words.as_str())?;
     let stored = stored_in(client, column);
     if stored > 0 {
         let words = format!(in alloc; "{stored} stored")?;
         let above = y.saturating_sub(8);
-        push_label(
-            text,
-            column.middle,
-            above,
-            Anchor::Middle,
-            "note",
-            words.as_str(),
-        )?;
+        push_label(text, x, above, Anchor::Middle, "note", words.as_str())?;
     }
     Ok(())
 }
@@ -237,13 +204,8 @@ pub(crate) fn push_heights(
     for column in &columns.list {
         let class = if column.count == 1 { "line" } else { "gap" };
         let from = column.middle.saturating_sub(column.half);
-        push_line(
-            text,
-            class,
-            from,
-            column.middle.saturating_add(column.half),
-            y,
-        )?;
+        let to = column.middle.saturating_add(column.half);
+        push_line(text, class, from, to, y)?;
     }
     for column in &columns.list {
         match client.heights.get(column.first) {

@@ -123,22 +123,12 @@ fn marks(
 ) -> Result<Vec<bool>, AllocError> {
     let heights = client.heights.as_slice();
     let mut marks = vec![in alloc; false; heights.len()]?;
-    mark_any(
-        &mut marks,
-        heights,
-        heights.first().map(|known| known.height),
-    );
-    mark_any(
-        &mut marks,
-        heights,
-        heights.last().map(|known| known.height),
-    );
-    mark_any(
-        &mut marks,
-        heights,
-        client.stored.last().map(|stored| stored.height),
-    );
-    mark_any(&mut marks, heights, proof);
+    let lowest = heights.first().map(|known| known.height);
+    let highest = heights.last().map(|known| known.height);
+    let newest = client.stored.last().map(|stored| stored.height);
+    for height in [lowest, highest, newest, proof] {
+        mark_any(&mut marks, heights, height);
+    }
     match &client.why {
         Why::Planned(plan) => mark_plan(&mut marks, heights, plan),
         Why::Unreachable(why) => mark_unreachable(&mut marks, heights, why),

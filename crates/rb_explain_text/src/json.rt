@@ -1,17 +1,22 @@
 //! An explanation as JSON. Identifiers have no character that JSON escapes.
-use crate::names::{answer_name, chain_name, client_name, path_name};
 use crate::pieces::{put, put_long};
+use crate::refusals::{number_of, subject_of, words_of};
+use crate::steps::answer_name;
 use crate::text::next_of;
 use rb_base::{Height, Sink};
 use rb_explain::{
     Charges, ClientExplanation, IdleReason, PlanExplanation, Power, PricedList, Refresh, Stay,
-    StepExplanation, Subject, TurnExplanation, UnreachableExplanation, WaitingMessage, Why,
+    StepExplanation, StoredHeight, Subject, TurnExplanation, UnreachableExplanation,
+    WaitingMessage, Why,
 };
 use rb_plan_client::Message;
-use rb_plan_types::{Label, Update};
-use rb_scan::{Kind, Sequence};
-use rb_script_text::push_moment;
-use rb_script_types::{Config, Goal, Refusal, Version};
+use rb_plan_types::Update;
+use rb_scan::PacketMsg;
+use rb_script_text::{
+    chain_name, client_name, format_of, kind_name, path_name, push_boolean, push_comma, push_goal,
+    push_name, push_next, push_number, push_number_or_null, push_refusal, push_string, push_text,
+};
+use rb_script_types::{Config, Refusal, Version};
 use rb_super_turn::{
     BatchReport, ClientReport, Outcome, PlanReport, PlannedReport, RefusedEvent, SendingReport,
     SettlementReport,
@@ -24,18 +29,16 @@ pub fn put_json_beginning<W: Sink>(
     version: Version,
     writer: &mut W,
 ) -> Result<bool, AllocError> {
-    let format = match version {
-        Version::One | Version::Two => 1,
-        Version::Three => 3,
-        Version::Four => 4,
-    };
-    let mut text = format!(in alloc; "{{\"ibcplan\": {format}, \"turns\": [")?;
+    let mut text = String::from_str(alloc, "{")?;
+    push_number(&mut text, false, "ibcplan", format_of(version))?;
+    push_name(&mut text, true, "turns")?;
+    text.push_str("[")?;
     Ok(put(&mut text, writer))
 }
 
 /// Writes what stands behind the last turn.
 pub fn put_json_end<W: Sink>(alloc: Global, writer: &mut W) -> Result<bool, AllocError> {
-    let mut text = format!(in alloc; "]}}\n")?;
+    let mut text = String::from_str(alloc, "]}\n")?;
     Ok(put(&mut text, writer))
 }
 
@@ -49,30 +52,52 @@ pub fn put_json<W: Sink>(
     writer: &mut W,
 ) -> Result<bool, AllocError> {
     let mut text = String::new(alloc);
-    push_comma(&mut text, place)?;
+    push_comma(&mut text, place > 0)?;
     push_refusals(&mut text, config, turn)?;
-    let mut count: usize = 0;
+    push_name(&mut text, true, "clients")?;
+    text.push_str("[")?;
+    let mut is_later = false;
     for (report, client) in turn.report.clients.iter().zip(&turn.clients) {
         if let Some(client) = client {
-            push_comma(&mut text, count)?;
+            push_comma(&mut text, is_later)?;
             push_client(&mut text, config, report, client)?;
             put_long(&mut text, writer);
-            count = count.saturating_add(1);
+            is_later = true;
         }
     }
-    text.push_str("], \"settlements\": [")?;
+    text.push_str("]")?;
     push_settlements(&mut text, turn.report.settlements.as_slice())?;
-    text.push_str("]}")?;
+    text.push_str("}")?;
     Ok(put(&mut text, writer))
 }
 
-/// Adds what stands between an element and the one before it.
-fn push_comma(text: &mut String, place: usize) -> Result<(), AllocError> {
-    if place == 0 {
-        Ok(())
-    } else {
-        text.push_str(", ")
+/// Adds a member that is an array, whose values a function adds.
+fn push_array<T, F: Fn(&mut String, &T) -> Result<(), AllocError>>(
+    text: &mut String,
+    name: &str,
+    values: &[T],
+    push: F,
+) -> Result<(), AllocError>
+    requires { F.IsAlwaysCallable push }
+{
+    push_name(text, true, name)?;
+    text.push_str("[")?;
+    for (place, value) in values.iter().enumerate() {
+        push_comma(text, place > 0)?;
+        push(text, value)?;
     }
+    text.push_str("]")
+}
+
+/// Adds a member that is a number of more than 64 bits.
+fn push_long(text: &mut String, name: &str, number: u128) -> Result<(), AllocError> {
+    push_number_or_null(text, true, name, Some(number))
+}
+
+/// Adds a member that is a height, or null.
+fn push_height(text: &mut String, name: &str, height: Option<Height>) -> Result<(), AllocError> {
+    let number = height.map(|height| u128::from(height.get()));
+    push_number_or_null(text, true, name, number)
 }
 
 /// Adds a turn's number, whether its window is refused, and its refused events.
@@ -81,46 +106,34 @@ fn push_refusals(
     config: &Config,
     turn: &TurnExplanation,
 ) -> Result<(), AllocError> {
-    let number = turn.turn;
-    let window_back = turn.report.window_back;
-    write!(
-        text,
-        "{{\"turn\": {number}, \"window_back\": {window_back}, "
-    )?;
-    push_hosts(text, config, turn.report.hosts_back.as_slice())?;
-    text.push_str("\"refused\": [")?;
-    for (place, refused) in turn.report.refused.iter().enumerate() {
-        push_comma(text, place)?;
-        push_refused(text, config, turn.subjects.as_slice(), refused)?;
+    text.push_str("{")?;
+    push_number(text, false, "turn", turn.turn as u64)?;
+    push_boolean(text, true, "window_back", turn.report.window_back)?;
+    if config.version == Version::Four {
+        let hosts = turn.report.hosts_back.as_slice();
+        push_array(text, "windows_back", hosts, |text, host| {
+            push_string(text, chain_name(config, *host))
+        })?;
     }
-    text.push_str("], \"clients\": [")
-}
-
-/// Adds the hosts whose windows are refused, in version 4.
-fn push_hosts(text: &mut String, config: &Config, hosts: &[usize]) -> Result<(), AllocError> {
-    if config.version != Version::Four {
-        return Ok(());
-    }
-    text.push_str("\"windows_back\": [")?;
-    for (place, host) in hosts.iter().enumerate() {
-        push_comma(text, place)?;
-        let host = chain_name(config, *host);
-        write!(text, "\"{host}\"")?;
-    }
-    text.push_str("], ")
+    let refused = turn.report.refused.as_slice();
+    push_array(text, "refused", refused, |text, refused| {
+        push_refused(text, config, turn.subjects.as_slice(), refused)
+    })
 }
 
 /// Adds the settlements that are refused.
 fn push_settlements(text: &mut String, settlements: &[SettlementReport]) -> Result<(), AllocError> {
-    let mut count: usize = 0;
+    push_name(text, true, "settlements")?;
+    text.push_str("[")?;
+    let mut is_later = false;
     for (place, settlement) in settlements.iter().enumerate() {
         if let Some(refusal) = &settlement.refusal {
-            push_comma(text, count)?;
+            push_comma(text, is_later)?;
             push_refused_settlement(text, place, settlement, refusal)?;
-            count = count.saturating_add(1);
+            is_later = true;
         }
     }
-    Ok(())
+    text.push_str("]")
 }
 
 fn push_refused_settlement(
@@ -129,14 +142,12 @@ fn push_refused_settlement(
     settlement: &SettlementReport,
     refusal: &Refusal,
 ) -> Result<(), AllocError> {
-    let id = settlement.id.as_str();
-    let batch = settlement.batch;
-    let number = refusal.number();
-    let name = refusal.name();
-    write!(
-        text,
-        "{{\"settlement\": {place}, \"client\": \"{id}\", \"batch\": {batch}, \"number\": {number}, \"name\": \"{name}\"}}"
-    )
+    text.push_str("{")?;
+    push_number(text, false, "settlement", place as u64)?;
+    push_text(text, true, "client", settlement.id.as_str())?;
+    push_number(text, true, "batch", settlement.batch)?;
+    push_refusal(text, refusal)?;
+    text.push_str("}")
 }
 
 fn push_refused(
@@ -145,93 +156,30 @@ fn push_refused(
     subjects: &[Subject],
     refused: &RefusedEvent,
 ) -> Result<(), AllocError> {
-    let event = refused.event;
-    let number = refused.refusal.number();
-    let name = refused.refusal.name();
-    write!(
-        text,
-        "{{\"event\": {event}, \"number\": {number}, \"name\": \"{name}\""
-    )?;
-    if let Some(subject) = subjects.get(event) {
-        text.push_str(", ")?;
+    text.push_str("{")?;
+    push_number(text, false, "event", refused.event as u64)?;
+    push_refusal(text, &refused.refusal)?;
+    if let Some(subject) = subjects.get(refused.event) {
         push_subject(text, config, subject)?;
     }
     match refused.refusal {
-        Refusal::BadVote(vote) => write!(text, ", \"vote\": {vote}}}"),
+        Refusal::BadVote(vote) => push_number(text, true, "vote", vote as u64)?,
         Refusal::Conflict(height) | Refusal::TimeOrder(height) => {
-            write!(text, ", \"with_height\": {height}}}")
+            push_number(text, true, "with_height", height.get())?;
         }
-        _ => text.push_str("}"),
+        _ => {}
     }
-}
-
-/// Adds what happened to a packet.
-fn push_packet(
-    text: &mut String,
-    config: &Config,
-    kind: &str,
-    path: usize,
-    sequence: Sequence,
-) -> Result<(), AllocError> {
-    let path = path_name(config, path);
-    write!(
-        text,
-        "\"kind\": \"{kind}\", \"path\": \"{path}\", \"sequence\": {sequence}"
-    )
-}
-
-fn push_set(text: &mut String, config: &Config, chain: usize) -> Result<(), AllocError> {
-    let chain = chain_name(config, chain);
-    write!(text, "\"kind\": \"set\", \"chain\": \"{chain}\"")
-}
-
-fn push_header(
-    text: &mut String,
-    config: &Config,
-    chain: usize,
-    height: Height,
-) -> Result<(), AllocError> {
-    let chain = chain_name(config, chain);
-    write!(
-        text,
-        "\"kind\": \"header\", \"chain\": \"{chain}\", \"height\": {height}"
-    )
-}
-
-fn push_stored(
-    text: &mut String,
-    config: &Config,
-    client: usize,
-    height: Height,
-) -> Result<(), AllocError> {
-    let client = client_name(config, client);
-    write!(
-        text,
-        "\"kind\": \"stored\", \"client\": \"{client}\", \"height\": {height}"
-    )
-}
-
-fn push_closed(text: &mut String, config: &Config, path: usize) -> Result<(), AllocError> {
-    let path = path_name(config, path);
-    write!(text, "\"kind\": \"closed\", \"path\": \"{path}\"")
+    text.push_str("}")
 }
 
 fn push_subject(text: &mut String, config: &Config, subject: &Subject) -> Result<(), AllocError> {
-    match subject {
-        Subject::Set { chain } => push_set(text, config, *chain),
-        Subject::Header { chain, height } => push_header(text, config, *chain, *height),
-        Subject::Stored { client, height } => push_stored(text, config, *client, *height),
-        Subject::Sent { path, sequence } => push_packet(text, config, "sent", *path, *sequence),
-        Subject::Received { path, sequence } => {
-            push_packet(text, config, "received", *path, *sequence)
-        }
-        Subject::AckWritten { path, sequence } => {
-            push_packet(text, config, "ack", *path, *sequence)
-        }
-        Subject::Cleared { path, sequence } => {
-            push_packet(text, config, "cleared", *path, *sequence)
-        }
-        Subject::Closed { path } => push_closed(text, config, *path),
+    let (kind, _) = words_of(subject);
+    let (object, id) = subject_of(config, subject);
+    push_text(text, true, "kind", kind)?;
+    push_text(text, true, object, id)?;
+    match number_of(subject) {
+        Some((name, number)) => push_number(text, true, name, number),
+        None => Ok(()),
     }
 }
 
@@ -241,74 +189,47 @@ fn push_client(
     report: &ClientReport,
     client: &ClientExplanation,
 ) -> Result<(), AllocError> {
-    push_client_window(text, config, client)?;
-    push_stored_heights(text, client)?;
-    push_charges(text, client)?;
-    push_reach(text, client)?;
-    push_waits(text, config, client)?;
+    push_standing(text, config, client)?;
+    push_height(text, "reach", client.reach)?;
+    let waiting = client.waiting.as_slice();
+    push_array(text, "waits", waiting, |text, message| {
+        push_waiting(text, config, message)
+    })?;
     push_refresh(text, client.refresh)?;
-    push_next(text, config.version, &report.outcome)?;
+    push_next(text, config.version, next_of(&report.outcome))?;
     push_outcome(text, config, &report.outcome)?;
-    push_why(text, &client.why)
+    push_why(text, &client.why)?;
+    text.push_str("}")
 }
 
-/// Adds a client's identifier, and its window.
-fn push_client_window(
+/// Adds a client's identifier, its window, what is stored, what it is charged, and whether a height is asked for.
+fn push_standing(
     text: &mut String,
     config: &Config,
     client: &ClientExplanation,
 ) -> Result<(), AllocError> {
-    let id = client_name(config, client.client);
-    let from = client.window.from().nanoseconds();
-    let until = client.window.until().nanoseconds();
-    write!(
-        text,
-        "{{\"id\": \"{id}\", \"from_ns\": {from}, \"until_ns\": {until}, \"stored\": ["
-    )
-}
-
-fn push_stored_heights(text: &mut String, client: &ClientExplanation) -> Result<(), AllocError> {
-    for (place, stored) in client.stored.iter().enumerate() {
-        push_comma(text, place)?;
-        let height = stored.height;
-        let expiry = stored.expiry;
-        write!(text, "{{\"height\": {height}, \"expiry_ns\": {expiry}}}")?;
-    }
-    Ok(())
-}
-
-fn push_charges(text: &mut String, client: &ClientExplanation) -> Result<(), AllocError> {
-    let is_asked = client.is_asked;
     let Charges {
         base,
         signature,
         validator,
     } = client.charges;
-    write!(
-        text,
-        "], \"charges\": [{base}, {signature}, {validator}], \"asked\": {is_asked}, \"reach\": "
-    )
+    text.push_str("{")?;
+    push_text(text, false, "id", client_name(config, client.client))?;
+    push_long(text, "from_ns", client.window.from().nanoseconds())?;
+    push_long(text, "until_ns", client.window.until().nanoseconds())?;
+    push_array(text, "stored", client.stored.as_slice(), push_stored)?;
+    let charges = &[base, signature, validator];
+    push_array(text, "charges", charges, |text, charge| {
+        write!(text, "{charge}")
+    })?;
+    push_boolean(text, true, "asked", client.is_asked)
 }
 
-fn push_reach(text: &mut String, client: &ClientExplanation) -> Result<(), AllocError> {
-    match client.reach {
-        Some(height) => write!(text, "{height}"),
-        None => text.push_str("null"),
-    }
-}
-
-/// Adds the messages that wait.
-fn push_waits(
-    text: &mut String,
-    config: &Config,
-    client: &ClientExplanation,
-) -> Result<(), AllocError> {
-    text.push_str(", \"waits\": [")?;
-    for (place, message) in client.waiting.iter().enumerate() {
-        push_comma(text, place)?;
-        push_message(text, config, message)?;
-    }
-    text.push_str("], ")
+fn push_stored(text: &mut String, stored: &StoredHeight) -> Result<(), AllocError> {
+    text.push_str("{")?;
+    push_number(text, false, "height", stored.height.get())?;
+    push_long(text, "expiry_ns", stored.expiry)?;
+    text.push_str("}")
 }
 
 /// Adds which refresh by gain is needed, or that one waits.
@@ -316,55 +237,41 @@ fn push_refresh(text: &mut String, refresh: Option<Refresh>) -> Result<(), Alloc
     let Some(refresh) = refresh else {
         return Ok(());
     };
-    let is_urgent = refresh.is_urgent;
-    write!(text, "\"refresh\": {{\"urgent\": {is_urgent}, \"height\": ")?;
-    match refresh.height {
-        Some(height) => write!(text, "{height}}}, "),
-        None => text.push_str("null}, "),
-    }
+    push_name(text, true, "refresh")?;
+    text.push_str("{")?;
+    push_boolean(text, false, "urgent", refresh.is_urgent)?;
+    push_height(text, "height", refresh.height)?;
+    text.push_str("}")
 }
 
-/// Adds when the client has a goal next, from version 3 on.
-fn push_next(text: &mut String, version: Version, outcome: &Outcome) -> Result<(), AllocError> {
-    match (version, next_of(outcome)) {
-        (Version::Three | Version::Four, Some(moment)) => {
-            text.push_str("\"next\": \"")?;
-            push_moment(text, moment)?;
-            text.push_str("\", ")
-        }
-        _ => Ok(()),
-    }
+/// Adds a message's kind, path and sequence.
+fn push_packet(
+    text: &mut String,
+    config: &Config,
+    path: usize,
+    packet: &PacketMsg,
+) -> Result<(), AllocError> {
+    push_text(text, false, "kind", kind_name(packet.kind))?;
+    push_text(text, true, "path", path_name(config, path))?;
+    push_number(text, true, "sequence", packet.sequence.get())
 }
 
-/// The word that a report has for a message of this kind.
-fn kind_name(kind: Kind) -> &'static str {
-    match kind {
-        Kind::Receive => "recv",
-        Kind::Acknowledge => "ack",
-        Kind::Timeout => "timeout",
-    }
-}
-
-fn push_message(
+fn push_waiting(
     text: &mut String,
     config: &Config,
     message: &WaitingMessage,
 ) -> Result<(), AllocError> {
-    let kind = kind_name(message.packet.kind);
-    let path = path_name(config, message.path);
-    let sequence = message.packet.sequence;
-    let floor = message.packet.floor;
-    write!(
-        text,
-        "{{\"kind\": \"{kind}\", \"path\": \"{path}\", \"sequence\": {sequence}, \"proved_from\": {floor}, \"until_ns\": "
-    )?;
-    match message.presses {
-        Some(moment) => write!(text, "{moment}")?,
-        None => text.push_str("null")?,
+    text.push_str("{")?;
+    push_packet(text, config, message.path, &message.packet)?;
+    push_number(text, true, "proved_from", message.packet.floor.get())?;
+    push_number_or_null(text, true, "until_ns", message.presses)?;
+    if let Some(stay) = message.stays {
+        push_text(text, true, "stays", stay_name(stay))?;
     }
-    push_stay(text, message.stays)
+    text.push_str("}")
 }
 
+/// Why a message can't go.
 fn stay_name(stay: Stay) -> &'static str {
     match stay {
         Stay::TooBig => "too_big",
@@ -373,65 +280,48 @@ fn stay_name(stay: Stay) -> &'static str {
     }
 }
 
-/// Adds why a message can't go, if it can't.
-fn push_stay(text: &mut String, stays: Option<Stay>) -> Result<(), AllocError> {
-    match stays {
-        Some(stay) => {
-            let name = stay_name(stay);
-            write!(text, ", \"stays\": \"{name}\"}}")
-        }
-        None => text.push_str("}"),
-    }
-}
-
 fn push_outcome(text: &mut String, config: &Config, outcome: &Outcome) -> Result<(), AllocError> {
     match outcome {
-        Outcome::Held(batch) => write!(text, "\"outcome\": \"held\", \"batch\": {batch}"),
-        Outcome::Idle(_) => text.push_str("\"outcome\": \"idle\""),
+        Outcome::Held(batch) => {
+            push_text(text, true, "outcome", "held")?;
+            push_number(text, true, "batch", *batch)
+        }
+        Outcome::Idle(_) => push_text(text, true, "outcome", "idle"),
         Outcome::Planned(planned) => push_planned(text, config, planned),
     }
 }
 
+/// Adds whether the goal can be reached, the goal, what was asked for out of reach, and what is sent, or the heights that are reached.
 fn push_planned(
     text: &mut String,
     config: &Config,
     planned: &PlannedReport,
 ) -> Result<(), AllocError> {
-    push_goal(text, planned)?;
+    let is_plan = planned.plan.is_some();
+    push_text(
+        text,
+        true,
+        "outcome",
+        if is_plan { "plan" } else { "unreachable" },
+    )?;
+    push_name(text, true, "goal")?;
+    push_goal(text, planned.goal)?;
+    if let Some(beyond) = planned.beyond {
+        push_name(text, true, "beyond")?;
+        push_goal(text, beyond)?;
+    }
     match &planned.plan {
         Some(plan) => push_sends(text, config, plan),
-        None => push_reached(text, planned.labelling.labels()),
-    }
-}
-
-/// Adds whether the goal can be reached, the goal, and what was asked for out of reach.
-fn push_goal(text: &mut String, planned: &PlannedReport) -> Result<(), AllocError> {
-    let outcome = match planned.plan {
-        Some(_) => "plan",
-        None => "unreachable",
-    };
-    write!(text, "\"outcome\": \"{outcome}\", \"goal\": ")?;
-    push_height(text, planned.goal)?;
-    match planned.beyond {
-        Some(beyond) => {
-            text.push_str(", \"beyond\": ")?;
-            push_height(text, beyond)
-        }
-        None => Ok(()),
-    }
-}
-
-fn push_height(text: &mut String, goal: Goal) -> Result<(), AllocError> {
-    match goal {
-        Goal::AtLeast(height) => write!(text, "{{\"at_least\": {height}}}"),
-        Goal::Exactly(height) => write!(text, "{{\"exactly\": {height}}}"),
+        None => push_array(text, "reached", planned.labelling.labels(), |text, label| {
+            write!(text, "{}", label.height)
+        }),
     }
 }
 
 /// Adds a plan's fee, and what is sent.
 fn push_sends(text: &mut String, config: &Config, plan: &PlanReport) -> Result<(), AllocError> {
-    let fee = plan.total.fee;
-    write!(text, ", \"fee\": {fee}, \"sends\": ")?;
+    push_number(text, true, "fee", plan.total.fee)?;
+    push_name(text, true, "sends")?;
     match &plan.sending {
         SendingReport::Nothing => text.push_str("null"),
         SendingReport::TooBig(message) => write!(text, "{{\"too_big\": {message}}}"),
@@ -445,40 +335,20 @@ fn push_batch(
     batch: &BatchReport,
     messages: &[Message],
 ) -> Result<(), AllocError> {
-    let number = batch.number;
-    let proof = batch.proof;
-    let count = batch.transactions.len();
-    write!(
-        text,
-        "{{\"batch\": {number}, \"proof\": {proof}, \"transactions\": {count}, \"messages\": ["
-    )?;
-    for (place, message) in messages.iter().enumerate() {
-        push_comma(text, place)?;
-        push_sent(text, config, message)?;
-    }
-    text.push_str("]}")
+    text.push_str("{")?;
+    push_number(text, false, "batch", batch.number)?;
+    push_number(text, true, "proof", batch.proof.get())?;
+    push_number(text, true, "transactions", batch.transactions.len() as u64)?;
+    push_array(text, "messages", messages, |text, message| {
+        push_message(text, config, message)
+    })?;
+    text.push_str("}")
 }
 
-fn push_sent(text: &mut String, config: &Config, message: &Message) -> Result<(), AllocError> {
-    let packet = message.packet();
-    let kind = kind_name(packet.kind);
-    let path = path_name(config, message.path());
-    let sequence = packet.sequence;
-    write!(
-        text,
-        "{{\"kind\": \"{kind}\", \"path\": \"{path}\", \"sequence\": {sequence}}}"
-    )
-}
-
-/// Adds the heights that are reached.
-fn push_reached(text: &mut String, labels: &[Label]) -> Result<(), AllocError> {
-    text.push_str(", \"reached\": [")?;
-    for (place, label) in labels.iter().enumerate() {
-        push_comma(text, place)?;
-        let height = label.height;
-        write!(text, "{height}")?;
-    }
-    text.push_str("]")
+fn push_message(text: &mut String, config: &Config, message: &Message) -> Result<(), AllocError> {
+    text.push_str("{")?;
+    push_packet(text, config, message.path(), &message.packet())?;
+    text.push_str("}")
 }
 
 fn idle_name(reason: IdleReason) -> &'static str {
@@ -494,115 +364,72 @@ fn idle_name(reason: IdleReason) -> &'static str {
 
 fn push_why(text: &mut String, why: &Why) -> Result<(), AllocError> {
     match why {
-        Why::Held => text.push_str("}"),
-        Why::Idle(reason) => {
-            let name = idle_name(*reason);
-            write!(text, ", \"reason\": \"{name}\"}}")
-        }
+        Why::Held => Ok(()),
+        Why::Idle(reason) => push_text(text, true, "reason", idle_name(*reason)),
         Why::Planned(plan) => push_plan(text, plan),
-        Why::Unreachable(why) => push_unreachable(text, why),
+        Why::Unreachable(why) => {
+            push_height(text, "wanted", why.wanted)?;
+            push_array(text, "tried", why.steps.as_slice(), push_step)
+        }
     }
 }
 
 fn push_plan(text: &mut String, plan: &PlanExplanation) -> Result<(), AllocError> {
-    text.push_str(", \"steps\": [")?;
-    push_steps(text, plan.steps.as_slice())?;
-    text.push_str("], \"direct\": ")?;
+    push_array(text, "steps", plan.steps.as_slice(), push_step)?;
+    push_name(text, true, "direct")?;
     push_step(text, &plan.direct)?;
-    text.push_str(", \"fewest\": ")?;
-    push_list(text, &plan.fewest)?;
-    text.push_str(", \"bisection\": ")?;
-    push_list(text, &plan.bisection)?;
-    text.push_str("}")
-}
-
-fn push_unreachable(text: &mut String, why: &UnreachableExplanation) -> Result<(), AllocError> {
-    text.push_str(", \"wanted\": ")?;
-    match why.wanted {
-        Some(height) => write!(text, "{height}")?,
-        None => text.push_str("null")?,
-    }
-    text.push_str(", \"tried\": [")?;
-    push_steps(text, why.steps.as_slice())?;
-    text.push_str("]}")
-}
-
-fn push_steps(text: &mut String, steps: &[Option<StepExplanation>]) -> Result<(), AllocError> {
-    for (place, step) in steps.iter().enumerate() {
-        push_comma(text, place)?;
-        push_step(text, step)?;
-    }
-    Ok(())
+    push_list(text, "fewest", &plan.fewest)?;
+    push_list(text, "bisection", &plan.bisection)
 }
 
 fn push_step(text: &mut String, step: &Option<StepExplanation>) -> Result<(), AllocError> {
-    match step {
-        Some(step) => {
-            push_answer(text, step)?;
-            push_powers(text, step)?;
-            push_fee(text, step)
-        }
-        None => text.push_str("null"),
-    }
+    let Some(step) = step else {
+        return text.push_str("null");
+    };
+    push_answer(text, step)?;
+    push_power(text, "trusted_power", step.trusted_power)?;
+    push_power(text, "own_power", Some(step.own_power))?;
+    push_number(text, true, "fee", step.fee)?;
+    push_number(text, true, "votes", step.votes as u64)?;
+    push_number(text, true, "validators", step.validators as u64)?;
+    text.push_str("}")
 }
 
 fn push_answer(text: &mut String, step: &StepExplanation) -> Result<(), AllocError> {
-    let height = step.height;
-    let trusted = step.trusted;
-    let answer = answer_name(step.answer);
-    let expiry = step.expiry;
-    let time = step.time.nanoseconds();
-    write!(
-        text,
-        "{{\"height\": {height}, \"trusted\": {trusted}, \"answer\": \"{answer}\", \"expiry_ns\": {expiry}, \"time_ns\": {time}, "
-    )
+    text.push_str("{")?;
+    push_number(text, false, "height", step.height.get())?;
+    push_number(text, true, "trusted", step.trusted.get())?;
+    push_text(text, true, "answer", answer_name(step.answer))?;
+    push_long(text, "expiry_ns", step.expiry)?;
+    push_long(text, "time_ns", step.time.nanoseconds())
 }
 
-fn push_powers(text: &mut String, step: &StepExplanation) -> Result<(), AllocError> {
-    text.push_str("\"trusted_power\": ")?;
-    match &step.trusted_power {
-        Some(power) => push_power(text, power)?,
-        None => text.push_str("null")?,
-    }
-    text.push_str(", \"own_power\": ")?;
-    push_power(text, &step.own_power)
+fn push_power(text: &mut String, name: &str, power: Option<Power>) -> Result<(), AllocError> {
+    push_name(text, true, name)?;
+    let Some(power) = power else {
+        return text.push_str("null");
+    };
+    text.push_str("{")?;
+    push_number(text, false, "signed", power.signed)?;
+    push_number(text, true, "total", power.total)?;
+    push_number(text, true, "more_than", power.threshold)?;
+    text.push_str("}")
 }
 
-fn push_fee(text: &mut String, step: &StepExplanation) -> Result<(), AllocError> {
-    let fee = step.fee;
-    let votes = step.votes;
-    let validators = step.validators;
-    write!(
-        text,
-        ", \"fee\": {fee}, \"votes\": {votes}, \"validators\": {validators}}}"
-    )
-}
-
-fn push_power(text: &mut String, power: &Power) -> Result<(), AllocError> {
-    let signed = power.signed;
-    let total = power.total;
-    let threshold = power.threshold;
-    write!(
-        text,
-        "{{\"signed\": {signed}, \"total\": {total}, \"more_than\": {threshold}}}"
-    )
-}
-
-fn push_list(text: &mut String, list: &Option<PricedList>) -> Result<(), AllocError> {
+fn push_list(text: &mut String, name: &str, list: &Option<PricedList>) -> Result<(), AllocError> {
+    push_name(text, true, name)?;
     let Some(list) = list else {
         return text.push_str("null");
     };
-    let fee = list.fee;
-    write!(text, "{{\"fee\": {fee}, \"updates\": [")?;
-    for (place, update) in list.updates.iter().enumerate() {
-        push_comma(text, place)?;
-        push_update(text, update)?;
-    }
-    text.push_str("]}")
+    text.push_str("{")?;
+    push_number_or_null(text, false, "fee", Some(list.fee))?;
+    push_array(text, "updates", list.updates.as_slice(), push_update)?;
+    text.push_str("}")
 }
 
 fn push_update(text: &mut String, update: &Update) -> Result<(), AllocError> {
-    let height = update.height();
-    let trusted = update.trusted();
-    write!(text, "{{\"height\": {height}, \"trusted\": {trusted}}}")
+    text.push_str("{")?;
+    push_number(text, false, "height", update.height().get())?;
+    push_number(text, true, "trusted", update.trusted().get())?;
+    text.push_str("}")
 }

@@ -6,7 +6,6 @@ mod bands;
 mod columns;
 mod json;
 mod moments;
-mod names;
 mod packets;
 mod picture;
 mod pieces;
@@ -17,9 +16,8 @@ mod text;
 
 pub use json::{put_json, put_json_beginning, put_json_end};
 pub use moments::push_time;
-pub use names::answer_name;
 pub use packets::message_lines;
 pub use picture::picture_of;
 pub use pieces::put;
-pub use steps::push_count;
+pub use steps::{answer_name, push_count};
 pub use text::{push_client, push_heading, put_text};

@@ -1,4 +1,5 @@
 //! Moments by their time of day.
+use rb_base::Window;
 use rb_script_text::{SECOND, push_instant};
 use std::alloc::AllocError;
 
@@ -17,4 +18,13 @@ pub fn push_time(text: &mut String, nanoseconds: u128, beside: u128) -> Result<(
     let minutes = nanoseconds % HOUR / MINUTE;
     let seconds = nanoseconds % MINUTE / SECOND;
     write!(text, "{hours:02}:{minutes:02}:{seconds:02}Z")
+}
+
+/// Adds a window: its beginning, and its end by its time of day.
+pub(crate) fn push_window(text: &mut String, window: &Window) -> Result<(), AllocError> {
+    let from = window.from().nanoseconds();
+    text.push_str("window: ")?;
+    push_instant(text, from)?;
+    text.push_str(" to ")?;
+    push_time(text, window.until().nanoseconds(), from)
 }

@@ -1,10 +1,10 @@
 //! Packet messages as text, those of one kind and path together.
 use crate::moments::push_time;
-use crate::names::path_name;
 use crate::steps::push_count;
 use rb_explain::{ClientExplanation, Stay, WaitingMessage};
 use rb_plan_client::Message;
 use rb_scan::Kind;
+use rb_script_text::{path_name, push_comma};
 use rb_script_types::{Config, Goal, Version};
 use rb_super_turn::Outcome;
 use std::alloc::{AllocError, Global};
@@ -12,7 +12,7 @@ use std::alloc::{AllocError, Global};
 /// So many sequences are told of neighbours of one kind and path.
 const MOST_SEQUENCES: usize = 8;
 
-fn kind_name(kind: Kind) -> &'static str {
+fn kind_words(kind: Kind) -> &'static str {
     match kind {
         Kind::Receive => "receive",
         Kind::Acknowledge => "acknowledgement",
@@ -68,13 +68,12 @@ fn push_run(
     let Some(first) = messages.first() else {
         return Ok(());
     };
-    push_count(text, messages.len(), kind_name(first.packet.kind))?;
+    push_count(text, messages.len(), kind_words(first.packet.kind))?;
     let path = path_name(config, first.path);
     write!(text, " of {path} (")?;
     for (place, message) in messages.iter().take(MOST_SEQUENCES).enumerate() {
-        let comma = if place == 0 { "" } else { ", " };
-        let sequence = message.packet.sequence;
-        write!(text, "{comma}{sequence}")?;
+        push_comma(text, place > 0)?;
+        write!(text, "{}", message.packet.sequence)?;
     }
     text.push_str(if messages.len() > MOST_SEQUENCES {
         ", ..)"
@@ -215,8 +214,7 @@ fn push_staying(
     }
     text.push_str("  stays: ")?;
     push_messages(text, config, staying.as_slice())?;
-    let words = stay_words(stay);
-    writeln!(text, ", {words}")
+    writeln!(text, ", {}", stay_words(stay))
 }
 
 /// Adds the packet messages that are owed and not sent: first those that wait for others, or for a height that was asked for, then

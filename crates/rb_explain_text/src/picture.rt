@@ -3,17 +3,16 @@
 use crate::arcs::{Arcs, Meaning};
 use crate::bands::{push_bands, push_heights};
 use crate::columns::{Columns, LEAST_WIDTH, MARGIN, columns_of, others_undrawn, undrawn};
-use crate::moments::push_time;
+use crate::moments::push_window;
 use crate::packets::message_lines;
-use crate::steps::push_count;
+use crate::steps::{push_count, push_price};
 use crate::svg::{
     Anchor, Arc, Area, push_arc, push_beginning, push_box, push_circle, push_escaped, push_label,
-    push_pointer,
+    push_note, push_pointer,
 };
 use crate::text::{push_client, push_heading};
-use rb_base::{Height, Window};
-use rb_explain::{ClientExplanation, PricedList, TurnExplanation, Why};
-use rb_script_text::push_instant;
+use rb_base::Height;
+use rb_explain::{ClientExplanation, TurnExplanation, Why};
 use rb_script_types::Config;
 use rb_super_turn::{ClientReport, Outcome, PlanReport, SendingReport};
 use std::alloc::{AllocError, Global};
@@ -65,8 +64,7 @@ pub fn picture_of(
             height = height.saturating_add(panel.height);
         }
     }
-    let number = turn.turn;
-    let title = format!(in alloc; "turn {number}")?;
+    let title = format!(in alloc; "turn {}", turn.turn)?;
     whole_of(alloc, title.as_str(), panels.as_str(), width, height)
 }
 
@@ -159,38 +157,17 @@ fn push_words(
     let mut heading = String::new(alloc);
     push_heading(&mut heading, config, turn, report, client)?;
     panel.widen(MARGIN, heading.as_str(), 9);
-    push_label(
-        &mut panel.text,
-        MARGIN,
-        26,
-        Anchor::Left,
-        "title",
-        heading.as_str(),
-    )?;
+    let text = &mut panel.text;
+    push_label(text, MARGIN, 26, Anchor::Left, "title", heading.as_str())?;
     let mut window = String::new(alloc);
     push_window(&mut window, &client.window)?;
-    push_label(
-        &mut panel.text,
-        MARGIN,
-        46,
-        Anchor::Left,
-        "note",
-        window.as_str(),
-    )?;
+    push_note(text, MARGIN, 46, window.as_str())?;
     let mut plan = String::new(alloc);
     push_plan(&mut plan, report, client)?;
+    push_label(text, MARGIN, 64, Anchor::Left, "", plan.as_str())?;
     panel.widen(MARGIN, plan.as_str(), 7);
-    push_label(&mut panel.text, MARGIN, 64, Anchor::Left, "", plan.as_str())?;
     panel.height = 72;
     Ok(())
-}
-
-fn push_window(text: &mut String, window: &Window) -> Result<(), AllocError> {
-    let from = window.from().nanoseconds();
-    text.push_str("window: ")?;
-    push_instant(text, from)?;
-    text.push_str(" to ")?;
-    push_time(text, window.until().nanoseconds(), from)
 }
 
 /// Adds the plan in a line, and the lists beside it.
@@ -205,12 +182,11 @@ fn push_plan(
     let count = plan.updates.len();
     text.push_str("plan: ")?;
     push_count(text, count, "update")?;
-    let fee = plan.total.fee;
-    write!(text, ", fee {fee}")?;
+    write!(text, ", fee {}", plan.total.fee)?;
     push_undrawn(text, undrawn(count))?;
-    push_list(text, "; fewest updates", &why.fewest, "not searched")?;
+    push_price(text, "; fewest updates", &why.fewest, "not searched")?;
     if why.direct.is_some() {
-        push_list(text, "; as a light client bisects", &why.bisection, "none")?;
+        push_price(text, "; as a light client bisects", &why.bisection, "none")?;
         if let Some(list) = &why.bisection {
             push_undrawn(text, others_undrawn(list.updates.len()))?;
         }
@@ -224,22 +200,6 @@ fn push_undrawn(text: &mut String, count: usize) -> Result<(), AllocError> {
         write!(text, " ({count} of them not drawn)")?;
     }
     Ok(())
-}
-
-fn push_list(
-    text: &mut String,
-    what: &str,
-    list: &Option<PricedList>,
-    otherwise: &str,
-) -> Result<(), AllocError> {
-    match list {
-        Some(list) => {
-            let count = list.updates.len();
-            let fee = list.fee;
-            write!(text, "{what}: {count}, fee {fee}")
-        }
-        None => write!(text, "{what}: {otherwise}"),
-    }
 }
 
 /// Adds the messages that are sent, below the height that proves them.
@@ -291,63 +251,22 @@ fn push_message(panel: &mut Panel, x: u64, words: &str) -> Result<(), AllocError
 /// Adds what the shapes mean.
 fn push_legend(text: &mut String) -> Result<(), AllocError> {
     push_sample(text, Meaning::Update, 24, 22)?;
-    push_label(
-        text,
-        68,
-        22,
-        Anchor::Left,
-        "note",
-        "an update of the plan, with its fee",
-    )?;
+    push_note(text, 68, 22, "an update of the plan, with its fee")?;
     push_sample(text, Meaning::Refused, 310, 22)?;
-    push_label(
-        text,
-        354,
-        22,
-        Anchor::Left,
-        "note",
-        "a step that is refused, with the reason",
-    )?;
+    push_note(text, 354, 22, "a step that is refused, with the reason")?;
     push_sample(text, Meaning::Bisection, 24, 40)?;
-    push_label(
-        text,
-        68,
-        42,
-        Anchor::Left,
-        "note",
-        "below: as a light client bisects",
-    )?;
-    push_box(
-        text,
-        "full",
-        Area {
-            x: 310,
-            y: 34,
-            width: 10,
-            height: 10,
-        },
-    )?;
-    push_label(text, 328, 43, Anchor::Left, "note", "stored")?;
+    push_note(text, 68, 42, "below: as a light client bisects")?;
+    push_box(text, "full", Area::new(310, 34, 10, 10))?;
+    push_note(text, 328, 43, "stored")?;
     push_circle(text, 397, 39)?;
-    push_label(text, 408, 43, Anchor::Left, "note", "header")?;
-    push_box(
-        text,
-        "s0",
-        Area {
-            x: 470,
-            y: 32,
-            width: 26,
-            height: 14,
-        },
-    )?;
-    push_label(text, 502, 43, Anchor::Left, "note", "the set that signed")?;
+    push_note(text, 408, 43, "header")?;
+    push_box(text, "s0", Area::new(470, 32, 26, 14))?;
+    push_note(text, 502, 43, "the set that signed")?;
     push_pointer(text, 315, 52)?;
-    push_label(
+    push_note(
         text,
         328,
         62,
-        Anchor::Left,
-        "note",
         "packet messages, at the height that proves them",
     )
 }

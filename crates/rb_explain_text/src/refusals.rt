@@ -1,8 +1,6 @@
 //! Refused events as text.
-use crate::names::{chain_name, client_name, path_name};
-use rb_base::Height;
 use rb_explain::{Subject, TurnExplanation};
-use rb_scan::Sequence;
+use rb_script_text::{chain_name, client_name, path_name};
 use rb_script_types::{Config, Refusal};
 use rb_super_turn::{RefusedEvent, SettlementReport};
 use std::alloc::AllocError;
@@ -29,29 +27,26 @@ fn push_refused_settlement(
 ) -> Result<(), AllocError> {
     let id = settlement.id.as_str();
     let batch = settlement.batch;
-    let number = refusal.number();
-    let name = refusal.name();
     let clash = match refusal {
         Refusal::Repeat => "it was settled before",
         _ => "it isn't the open one, or has fewer transactions",
     };
     writeln!(
         text,
-        "turn {turn}, settlement {place} (from 0): refused, {number} {name}: batch {batch} of {id}; {clash}"
+        "turn {turn}, settlement {place} (from 0): refused, {refusal}: batch {batch} of {id}; {clash}"
     )
 }
 
 /// Adds that a window is refused: that of a host, or the turn's.
 fn push_window_back(text: &mut String, turn: usize, host: Option<&str>) -> Result<(), AllocError> {
-    let number = Refusal::WindowBack.number();
-    let name = Refusal::WindowBack.name();
+    let refusal = Refusal::WindowBack;
     match host {
         Some(host) => write!(text, "turn {turn}: the window of {host}")?,
         None => write!(text, "turn {turn}: its window")?,
     }
     writeln!(
         text,
-        " is refused, {number} {name}: it begins or ends before the one in force, which stays"
+        " is refused, {refusal}: it begins or ends before the one in force, which stays"
     )
 }
 
@@ -93,9 +88,7 @@ fn push_refused(
     subjects: &[Subject],
     refused: &RefusedEvent,
 ) -> Result<(), AllocError> {
-    let number = refused.refusal.number();
-    let name = refused.refusal.name();
-    write!(text, "{number} {name}: ")?;
+    write!(text, "{}: ", refused.refusal)?;
     match subjects.get(refused.event) {
         Some(subject) => {
             push_subject(text, config, subject)?;
@@ -109,63 +102,56 @@ fn push_refused(
     }
 }
 
-/// Adds what happened to a packet.
-fn push_packet(
-    text: &mut String,
-    config: &Config,
-    what: &str,
-    path: usize,
-    sequence: Sequence,
-) -> Result<(), AllocError> {
-    let path = path_name(config, path);
-    write!(text, "{what} {sequence} of {path}")
+/// The words for what an event tells of: of JSON, and of a text.
+pub(crate) fn words_of(subject: &Subject) -> (&'static str, &'static str) {
+    match subject {
+        Subject::Set { .. } => ("set", "a set of"),
+        Subject::Header { .. } => ("header", "header"),
+        Subject::Stored { .. } => ("stored", "stored consensus state"),
+        Subject::Sent { .. } => ("sent", "sent packet"),
+        Subject::Received { .. } => ("received", "received packet"),
+        Subject::AckWritten { .. } => ("ack", "acknowledgement of packet"),
+        Subject::Cleared { .. } => ("cleared", "cleared packet"),
+        Subject::Closed { .. } => ("closed", "closed path"),
+    }
 }
 
-fn push_header(
-    text: &mut String,
-    config: &Config,
-    chain: usize,
-    height: Height,
-) -> Result<(), AllocError> {
-    let chain = chain_name(config, chain);
-    write!(text, "header {height} of {chain}")
+/// Of what an event tells: whether of a chain, a client or a path, and its identifier.
+pub(crate) fn subject_of<'a>(config: &'a Config, subject: &Subject) -> (&'static str, &'a str) {
+    match subject {
+        Subject::Set { chain } | Subject::Header { chain, .. } => {
+            ("chain", chain_name(config, *chain))
+        }
+        Subject::Stored { client, .. } => ("client", client_name(config, *client)),
+        Subject::Sent { path, .. }
+        | Subject::Received { path, .. }
+        | Subject::AckWritten { path, .. }
+        | Subject::Cleared { path, .. }
+        | Subject::Closed { path } => ("path", path_name(config, *path)),
+    }
 }
 
-fn push_stored(
-    text: &mut String,
-    config: &Config,
-    client: usize,
-    height: Height,
-) -> Result<(), AllocError> {
-    let client = client_name(config, client);
-    write!(text, "stored consensus state {height} of {client}")
+/// Its height or sequence, if it has one.
+pub(crate) fn number_of(subject: &Subject) -> Option<(&'static str, u64)> {
+    match subject {
+        Subject::Set { .. } | Subject::Closed { .. } => None,
+        Subject::Header { height, .. } | Subject::Stored { height, .. } => {
+            Some(("height", height.get()))
+        }
+        Subject::Sent { sequence, .. }
+        | Subject::Received { sequence, .. }
+        | Subject::AckWritten { sequence, .. }
+        | Subject::Cleared { sequence, .. } => Some(("sequence", sequence.get())),
+    }
 }
 
 /// Adds what an event tells of.
 fn push_subject(text: &mut String, config: &Config, subject: &Subject) -> Result<(), AllocError> {
-    match subject {
-        Subject::Set { chain } => {
-            let chain = chain_name(config, *chain);
-            write!(text, "a set of {chain}")
-        }
-        Subject::Header { chain, height } => push_header(text, config, *chain, *height),
-        Subject::Stored { client, height } => push_stored(text, config, *client, *height),
-        Subject::Sent { path, sequence } => {
-            push_packet(text, config, "sent packet", *path, *sequence)
-        }
-        Subject::Received { path, sequence } => {
-            push_packet(text, config, "received packet", *path, *sequence)
-        }
-        Subject::AckWritten { path, sequence } => {
-            push_packet(text, config, "acknowledgement of packet", *path, *sequence)
-        }
-        Subject::Cleared { path, sequence } => {
-            push_packet(text, config, "cleared packet", *path, *sequence)
-        }
-        Subject::Closed { path } => {
-            let path = path_name(config, *path);
-            write!(text, "closed path {path}")
-        }
+    let (_, words) = words_of(subject);
+    let (_, id) = subject_of(config, subject);
+    match number_of(subject) {
+        Some((_, number)) => write!(text, "{words} {number} of {id}"),
+        None => write!(text, "{words} {id}"),
     }
 }
 

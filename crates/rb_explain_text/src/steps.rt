@@ -1,6 +1,6 @@
 //! Steps as text.
 use rb_base::Window;
-use rb_explain::{Charges, Power, StepExplanation};
+use rb_explain::{Charges, Power, PricedList, StepExplanation};
 use rb_plan_types::Update;
 use rb_script_text::{push_instant, push_moment};
 use rb_step::{Reason, Verdict};
@@ -23,10 +23,32 @@ pub(crate) fn push_route(text: &mut String, updates: &[Update]) -> Result<(), Al
     Ok(())
 }
 
+/// The name of an answer: that of its reason, `NotEnoughTrust` or `Success`.
+pub fn answer_name(answer: Verdict) -> &'static str {
+    match answer {
+        Verdict::Success => "Success",
+        Verdict::NotEnoughTrust { .. } => "NotEnoughTrust",
+        Verdict::Invalid(reason) => reason.name(),
+    }
+}
+
 /// Adds a number of things, which are called this where there is one.
 pub fn push_count(text: &mut String, count: usize, thing: &str) -> Result<(), AllocError> {
     let plural = if count == 1 { "" } else { "s" };
     write!(text, "{count} {thing}{plural}")
+}
+
+/// Adds how many updates a list has, and their fees in all, or what is said where there is none.
+pub(crate) fn push_price(
+    text: &mut String,
+    what: &str,
+    list: &Option<PricedList>,
+    otherwise: &str,
+) -> Result<(), AllocError> {
+    match list {
+        Some(list) => write!(text, "{what}: {}, fee {}", list.updates.len(), list.fee),
+        None => write!(text, "{what}: {otherwise}"),
+    }
 }
 
 /// Adds what a step costs, and of what: a base, and so much for each vote and each validator.
@@ -35,15 +57,11 @@ pub(crate) fn push_fee(
     charges: &Charges,
     step: &StepExplanation,
 ) -> Result<(), AllocError> {
-    let fee = step.fee;
-    let base = charges.base;
-    let signature = charges.signature;
-    let validator = charges.validator;
-    write!(text, "{fee} = {base} + ")?;
+    write!(text, "{} = {} + ", step.fee, charges.base)?;
     push_count(text, step.votes, "vote")?;
-    write!(text, " x {signature} + ")?;
+    write!(text, " x {} + ", charges.signature)?;
     push_count(text, step.validators, "validator")?;
-    write!(text, " x {validator}")
+    write!(text, " x {}", charges.validator)
 }
 
 /// Adds the powers that an accepted step goes by.
@@ -61,12 +79,10 @@ pub(crate) fn push_powers(text: &mut String, step: &StepExplanation) -> Result<(
 }
 
 fn push_power(text: &mut String, power: &Power) -> Result<(), AllocError> {
-    let signed = power.signed;
-    let total = power.total;
-    let threshold = power.threshold;
     write!(
         text,
-        "{signed} of {total} signed, more than {threshold} is needed"
+        "{} of {} signed, more than {} is needed",
+        power.signed, power.total, power.threshold
     )
 }
 
@@ -87,14 +103,12 @@ pub(crate) fn push_answer(
 ) -> Result<(), AllocError> {
     match step.answer {
         Verdict::Success => {
-            let fee = step.fee;
-            write!(text, "accepted, fee {fee}: ")?;
+            write!(text, "accepted, fee {}: ", step.fee)?;
             push_powers(text, step)
         }
         Verdict::NotEnoughTrust { .. } => push_too_little(text, step),
         Verdict::Invalid(reason) => {
-            let name = reason.name();
-            write!(text, "refused, {name}: ")?;
+            write!(text, "refused, {}: ", reason.name())?;
             push_reason(text, window, step, reason)
         }
     }
@@ -127,8 +141,7 @@ fn push_expired(
 }
 
 fn push_ahead(text: &mut String, step: &StepExplanation) -> Result<(), AllocError> {
-    let height = step.height;
-    write!(text, "the time of {height}, ")?;
+    write!(text, "the time of {}, ", step.height)?;
     push_moment(text, step.time)?;
     text.push_str(", is ahead of the window's first moment by the clock drift or more")
 }

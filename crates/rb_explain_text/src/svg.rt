@@ -18,6 +18,17 @@ pub(crate) struct Area {
     pub height: u64,
 }
 
+impl Area {
+    pub fn new(x: u64, y: u64, width: u64, height: u64) -> Area {
+        Area {
+            x,
+            y,
+            width,
+            height,
+        }
+    }
+}
+
 /// An arc between two points of a line, with how far it rises above the line, or falls below it.
 #[derive(Clone, Copy)]
 pub(crate) struct Arc {
@@ -120,6 +131,11 @@ pub(crate) fn push_label(
     )?;
     push_escaped(text, words)?;
     text.push_str("</text>\n")
+}
+
+/// Adds a note to the right of a point.
+pub(crate) fn push_note(text: &mut String, x: u64, y: u64, words: &str) -> Result<(), AllocError> {
+    push_label(text, x, y, Anchor::Left, "note", words)
 }
 
 pub(crate) fn push_box(text: &mut String, class: &str, area: Area) -> Result<(), AllocError> {

@@ -1,17 +1,16 @@
 //! An explanation as text.
-use crate::moments::push_time;
-use crate::names::client_name;
+use crate::moments::{push_time, push_window};
 use crate::packets::{packets_of, push_messages, push_waiting};
 use crate::pieces::{put, put_long};
 use crate::refusals::{push_refusals, push_settlements};
-use crate::steps::{push_answer, push_count, push_fee, push_powers, push_route};
-use rb_base::{Height, Moment, Sink, Window};
+use crate::steps::{push_answer, push_count, push_fee, push_powers, push_price, push_route};
+use rb_base::{Height, Moment, Sink};
 use rb_explain::{
     ClientExplanation, IdleReason, PlanExplanation, PricedList, Refresh, StepExplanation,
     StoredHeight, TurnExplanation, UnreachableExplanation, WaitingMessage, Why,
 };
 use rb_plan_types::Label;
-use rb_script_text::{push_instant, push_length};
+use rb_script_text::{client_name, push_instant, push_length};
 use rb_script_types::{Config, Goal, Version};
 use rb_step::Verdict;
 use rb_super_turn::{BatchReport, ClientReport, Outcome, PlanReport, PlannedReport, SendingReport};
@@ -64,9 +63,12 @@ pub fn push_heading(
         )),
         (Outcome::Planned(planned), Why::Unreachable(_)) => {
             push_goal(text, planned.goal)?;
-            text.push_str(": unreachable")
+            text.push_str(" is wanted: unreachable")
         }
-        (Outcome::Planned(planned), _) => push_goal(text, planned.goal),
+        (Outcome::Planned(planned), _) => {
+            push_goal(text, planned.goal)?;
+            text.push_str(" is wanted")
+        }
         _ => Ok(()),
     }
 }
@@ -108,46 +110,27 @@ fn push_needs(
     outcome: &Outcome,
 ) -> Result<(), AllocError> {
     match (version, outcome) {
-        (Version::Four, Outcome::Idle(_)) => {
-            push_window(text, &client.window)?;
-            push_refresh(text, client.refresh)
-        }
-        (Version::Four, Outcome::Planned(planned)) => {
-            push_window(text, &client.window)?;
-            push_beyond(text, planned.beyond)?;
-            push_refresh(text, client.refresh)
-        }
+        (Version::Four, Outcome::Idle(_)) => push_windowed(text, client, None),
+        (Version::Four, Outcome::Planned(planned)) => push_windowed(text, client, planned.beyond),
         _ => Ok(()),
     }
 }
 
-fn push_window(text: &mut String, window: &Window) -> Result<(), AllocError> {
-    let from = window.from().nanoseconds();
-    text.push_str("  window: ")?;
-    push_instant(text, from)?;
-    text.push_str(" to ")?;
-    push_time(text, window.until().nanoseconds(), from)?;
-    text.push_str("\n")
-}
-
-/// Adds what was asked for and is out of reach.
-fn push_beyond(text: &mut String, beyond: Option<Goal>) -> Result<(), AllocError> {
-    match beyond {
-        Some(goal) => push_asked(text, goal),
-        None => Ok(()),
+/// Adds a client's window, what was asked for and is out of reach, and which refresh is needed, or that one waits.
+fn push_windowed(
+    text: &mut String,
+    client: &ClientExplanation,
+    beyond: Option<Goal>,
+) -> Result<(), AllocError> {
+    text.push_str("  ")?;
+    push_window(text, &client.window)?;
+    text.push_str("\n")?;
+    if let Some(goal) = beyond {
+        text.push_str("  asked for: ")?;
+        push_goal(text, goal)?;
+        text.push_str(", which is out of reach\n")?;
     }
-}
-
-fn push_asked(text: &mut String, goal: Goal) -> Result<(), AllocError> {
-    match goal {
-        Goal::AtLeast(height) => writeln!(
-            text,
-            "  asked for: at least height {height}, which is out of reach"
-        ),
-        Goal::Exactly(height) => {
-            writeln!(text, "  asked for: height {height}, which is out of reach")
-        }
-    }
+    push_refresh(text, client.refresh)
 }
 
 /// Adds which refresh is needed, or that one waits.
@@ -173,14 +156,11 @@ fn push_next(
     client: &ClientExplanation,
     outcome: &Outcome,
 ) -> Result<(), AllocError> {
+    let until = client.window.until().nanoseconds();
     match (version, next_of(outcome)) {
         (Version::Three | Version::Four, Some(moment)) => {
             text.push_str("  next: ")?;
-            push_time(
-                text,
-                moment.nanoseconds(),
-                client.window.until().nanoseconds(),
-            )?;
+            push_time(text, moment.nanoseconds(), until)?;
             text.push_str("\n")
         }
         _ => Ok(()),
@@ -198,8 +178,8 @@ pub(crate) fn next_of(outcome: &Outcome) -> Option<Moment> {
 
 fn push_goal(text: &mut String, goal: Goal) -> Result<(), AllocError> {
     match goal {
-        Goal::AtLeast(height) => write!(text, "at least height {height} is wanted"),
-        Goal::Exactly(height) => write!(text, "height {height} is wanted"),
+        Goal::AtLeast(height) => write!(text, "at least height {height}"),
+        Goal::Exactly(height) => write!(text, "height {height}"),
     }
 }
 
@@ -235,8 +215,7 @@ fn push_stored(text: &mut String, client: &ClientExplanation) -> Result<(), Allo
         }
     }
     if stored.len() > 3 {
-        let more = stored.len() - 3;
-        write!(text, "; {more} more")?;
+        write!(text, "; {} more", stored.len() - 3)?;
     }
     text.push_str("\n")
 }
@@ -246,8 +225,7 @@ fn push_stored_height(
     until: u128,
     stored: &StoredHeight,
 ) -> Result<(), AllocError> {
-    let height = stored.height;
-    write!(text, "{height} (expires ")?;
+    write!(text, "{} (expires ", stored.height)?;
     push_instant(text, stored.expiry)?;
     if stored.expiry > until {
         text.push_str(", ")?;
@@ -270,10 +248,9 @@ fn push_plan(
     let Some(report) = &planned.plan else {
         return Ok(());
     };
-    let fee = report.total.fee;
     text.push_str("  plan: ")?;
     push_count(text, report.updates.len(), "update")?;
-    writeln!(text, ", fee {fee}")?;
+    writeln!(text, ", fee {}", report.total.fee)?;
     push_steps(text, client, plan.steps.as_slice(), most)?;
     push_lists(text, client, plan)?;
     push_sending(alloc, text, config, report)
@@ -310,9 +287,7 @@ fn push_direct(
     if plan.is_only_step() {
         return Ok(());
     }
-    let trusted = step.trusted;
-    let height = step.height;
-    write!(text, "  one update, {trusted} -> {height}: ")?;
+    write!(text, "  one update, {} -> {}: ", step.trusted, step.height)?;
     push_answer(text, &client.window, step)?;
     text.push_str("\n")
 }
@@ -323,9 +298,7 @@ fn push_step(
     client: &ClientExplanation,
     step: &StepExplanation,
 ) -> Result<(), AllocError> {
-    let trusted = step.trusted;
-    let height = step.height;
-    write!(text, "    {trusted} -> {height}: ")?;
+    write!(text, "    {} -> {}: ", step.trusted, step.height)?;
     push_fee(text, &client.charges, step)?;
     text.push_str("\n      ")?;
     push_powers(text, step)?;
@@ -346,8 +319,7 @@ fn push_steps(
         }
     }
     if shown < steps.len() {
-        let more = steps.len() - shown;
-        writeln!(text, "    {more} more (--all tells them)")?;
+        writeln!(text, "    {} more (--all tells them)", steps.len() - shown)?;
     }
     Ok(())
 }
@@ -359,16 +331,15 @@ fn push_list(
     list: &Option<PricedList>,
     otherwise: &str,
 ) -> Result<(), AllocError> {
-    let Some(list) = list else {
-        return writeln!(text, "  {what}: {otherwise}");
-    };
-    let count = list.updates.len();
-    let fee = list.fee;
-    write!(text, "  {what}: {count}, fee {fee}")?;
-    if count > 0 && count <= MOST_HEIGHTS {
-        text.push_str(" (")?;
-        push_route(text, list.updates.as_slice())?;
-        text.push_str(")")?;
+    text.push_str("  ")?;
+    push_price(text, what, list, otherwise)?;
+    if let Some(list) = list {
+        let count = list.updates.len();
+        if count > 0 && count <= MOST_HEIGHTS {
+            text.push_str(" (")?;
+            push_route(text, list.updates.as_slice())?;
+            text.push_str(")")?;
+        }
     }
     text.push_str("\n")
 }
@@ -386,8 +357,7 @@ fn push_batch(
     if !packets.is_empty() {
         text.push_str("; ")?;
         push_messages(text, config, packets)?;
-        let proof = batch.proof;
-        write!(text, ", proved at {proof}")?;
+        write!(text, ", proved at {}", batch.proof)?;
     }
     text.push_str("\n")
 }
@@ -419,8 +389,7 @@ fn push_tried(
 ) -> Result<(), AllocError> {
     for step in steps {
         if let Some(step) = step {
-            let trusted = step.trusted;
-            write!(text, "    from {trusted}: ")?;
+            write!(text, "    from {}: ", step.trusted)?;
             push_answer(text, &client.window, step)?;
             text.push_str("\n")?;
         }
@@ -480,9 +449,8 @@ fn push_reached(text: &mut String, labels: &[Label]) -> Result<(), AllocError> {
     }
     for (place, label) in labels.iter().enumerate() {
         if place >= others {
-            let height = label.height;
             text.push_str(if place == 0 { " " } else { ", " })?;
-            write!(text, "{height}")?;
+            write!(text, "{}", label.height)?;
         }
     }
     text.push_str("\n")

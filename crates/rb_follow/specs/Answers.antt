@@ -8,7 +8,7 @@ use Rattle.rb_super_turn.specs.Report.{Report, TurnReport, ClientReport, Outcome
 use Rattle.rb_super_turn.specs.Report as outcome
 use Rattle.rb_super_turn.specs.Views.{turn_report_view}
 use Rattle.rb_text_report.specs.Report.{first_line, turn_text}
-use Rattle.rb_text_export.specs.Json.{json_text}
+use Rattle.rb_script_text.specs.Json.{json_text}
 use Rattle.rb_text_export.specs.ReportJson.{numbered_turn_line}
 use Rattle.rb_follow.specs.declared.answer.Answer.{Answer as CodeAnswer}
 use Rattle.rb_follow.specs.declared.answer.Answer.TheVariants as code

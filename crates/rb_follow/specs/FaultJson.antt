@@ -1,7 +1,7 @@
 -- Refusals as lines and as JSON (own choice).
 use Rattle.std.specs.Prelude.{ℕ, List, [], ◌∷◌, ◌++◌, codes, Option, Some, None}
 use Rattle.rb_script_toml.specs.Faults.{Fault, fault_line, number_of, name_of}
-use Rattle.rb_text_export.specs.Json.{Json, number, string, escaped, object, ◌is◌}
+use Rattle.rb_script_text.specs.Json.{Json, number, string, escaped, object, ◌is◌}
 use Rattle.rb_follow.specs.Followers.{Refusal, faulty, out_of_order}
 
 -- as the line of a fault

@@ -6,17 +6,18 @@ ghost use Rattle.rb_script_toml.specs.Faults.{fault_line, fault_view};
 ghost use Rattle.rb_super_turn.specs.Views.{turn_report_view};
 ghost use Rattle.rb_text_report.specs.Report.{turn_text};
 ghost use Rattle.rb_text_report.specs.Written.{IsWriteError};
-ghost use Rattle.rb_text_export.specs.Json.{escape, escaped, json_text, more_text, string_text};
+ghost use Rattle.rb_script_text.specs.Json.{json_text, more_text};
 ghost use Rattle.rb_follow.specs.Answers.{mark, answer_view, refusal_view, whole_text, greeting, head_text};
 ghost use Rattle.rb_follow.specs.FaultJson.{fault_json, named_members, order_members, placed_members, refusal_json, refusal_line, turn_members};
 ghost use Rattle.rb_follow.specs.Followers.{out_of_order};
 
 use crate::answer::{Answer, Refusal};
 use rb_base::{ChainId, Device, PathId, Sink, write_whole};
+use rb_script_text::{push_escaped, push_name, push_number, push_text};
 use rb_script_toml::{Fault, RunError};
 use rb_script_types::Version;
 use rb_super_turn::TurnReport;
-use rb_text_export::{json_of_turn, push_name, push_number, push_text};
+use rb_text_export::json_of_turn;
 use rb_text_report::{first_line, push_turn};
 use std::alloc::{AllocError, Global};
 
@@ -99,33 +100,6 @@ fn text_of_fault(alloc: Global, fault: &Fault) -> Result<String, AllocError>
     Ok(text)
 }
 
-/// Adds a text as a string of JSON. Paths of faults have no control character.
-fn push_string(text: &mut String, value: &str) -> Result<(), AllocError>
-    ensures { OnOk result (string_bytes text.new ≡ string_bytes text.old ++ string_text (escaped value.now)) }
-{
-    text.push_str("\"")?;
-    push_escaped(text, value)?;
-    text.push_str("\"")
-}
-
-fn push_escaped(text: &mut String, value: &str) -> Result<(), AllocError>
-    ensures { OnOk result (string_bytes text.new ≡ string_bytes text.old ++ escaped value.now) }
-{
-    for character in value.chars() {
-        push_escape(text, character)?;
-    }
-    Ok(())
-}
-
-fn push_escape(text: &mut String, character: char) -> Result<(), AllocError>
-    ensures { OnOk result (string_bytes text.new ≡ string_bytes text.old ++ escape character) }
-{
-    if character == '"' || character == '\\' {
-        text.push_str("\\")?;
-    }
-    text.push(character)
-}
-
 /// Adds a fault, and the number of its document, if it has one, as an object of JSON.
 fn push_fault(text: &mut String, number: Option<u64>, fault: &Fault) -> Result<(), AllocError>
     ensures { OnOk result (string_bytes text.new ≡ string_bytes text.old ++ json_text (fault_json number (fault_view fault.now))) }
@@ -144,13 +118,13 @@ fn push_placed(text: &mut String, number: Option<u64>, fault: &Fault) -> Result<
     push_document(text, number)
 }
 
-/// Adds what is wrong, and where.
+/// Adds what is wrong, and where. Paths of faults have no control character.
 fn push_named(text: &mut String, fault: &Fault) -> Result<(), AllocError>
     ensures { OnOk result (string_bytes text.new ≡ string_bytes text.old ++ more_text (named_members (fault_view fault.now))) }
 {
     push_text(text, true, "name", fault.name.name())?;
     push_name(text, true, "path")?;
-    push_string(text, fault.path.as_str())
+    push_escaped(text, fault.path.as_str())
 }
 
 /// Adds the number of a document, if it has one.

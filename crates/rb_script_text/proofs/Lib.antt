@@ -1,4 +1,5 @@
 -- lemmas
+pub mod Added
 pub mod Alike
 pub mod Clocks
 pub mod Gregorian

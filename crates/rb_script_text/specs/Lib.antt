@@ -1,2 +1,4 @@
+pub mod Json
 pub mod Lengths
 pub mod Moments
+pub mod Members

@@ -2,7 +2,7 @@
 use rb_script_types::Config;
 
 /// The identifier of a chain.
-pub(crate) fn chain_name(config: &Config, chain: usize) -> &str {
+pub fn chain_name(config: &Config, chain: usize) -> &str {
     match config.chains.get(chain) {
         Some(id) => id.as_str(),
         None => "",
@@ -10,7 +10,7 @@ pub(crate) fn chain_name(config: &Config, chain: usize) -> &str {
 }
 
 /// The identifier of a client.
-pub(crate) fn client_name(config: &Config, client: usize) -> &str {
+pub fn client_name(config: &Config, client: usize) -> &str {
     match config.clients.get(client) {
         Some(client) => client.id.as_str(),
         None => "",
@@ -18,7 +18,7 @@ pub(crate) fn client_name(config: &Config, client: usize) -> &str {
 }
 
 /// The identifier of a path.
-pub(crate) fn path_name(config: &Config, path: usize) -> &str {
+pub fn path_name(config: &Config, path: usize) -> &str {
     match config.paths.get(path) {
         Some(path) => path.id.as_str(),
         None => "",

@@ -1,3 +1,3 @@
-pub mod Joined
+pub mod Hosts
 pub mod Added
 pub mod Turns

@@ -16,7 +16,7 @@ use Rattle.rb_script_types.specs.declared.channel.ChannelEnd.{ChannelEnd}
 use Rattle.rb_script_types.specs.declared.config.ClientConfig.{ClientConfig}
 use Rattle.rb_script_types.specs.declared.config.PathConfig.{PathConfig}
 use Rattle.rb_super_turn.specs.Report.{RefusedEvent, PricedUpdate, SendingReport, nothing, too_big, batched, PlanReport, Outcome, held, idle, planned, ClientReport, TurnReport, Report}
-use Rattle.rb_text_export.specs.ReportJson.{kind_name}
+use Rattle.rb_script_text.specs.Members.{kind_name}
 use Rattle.rb_text_export.specs.Windows.{InForce, Setting, before_all, in_turn}
 use Rattle.rb_want_requests.specs.Lines.{own_id}
 

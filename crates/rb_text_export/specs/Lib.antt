@@ -1,4 +1,3 @@
-pub mod Json
 pub mod ReportJson
 pub mod Windows
 pub mod Commands

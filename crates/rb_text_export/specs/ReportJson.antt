@@ -3,30 +3,19 @@ use Rattle.std.specs.Prelude.{ℕ, ◌/◌, ◌%◌, true, List, [], ◌∷◌, 
 use Rattle.std.specs.Fmt.{digit_glyph}
 use Rattle.std.specs.List.{flat_map}
 use Rattle.rb_batch.specs.declared.transaction.Transaction.{Transaction}
-use Rattle.rb_script_text.specs.Moments.{moment_text}
+use Rattle.rb_script_text.specs.Json.{Json, number, boolean, string, array, object, ◌is◌, json_text}
+use Rattle.rb_script_text.specs.Members.{Member, format_of, goal_json, kind_name, next_members, refusal_members}
 use Rattle.rb_plan_types.specs.declared.cost.Cost.{Cost}
 use Rattle.rb_plan_types.specs.declared.labelling.Label.{Label}
 use Rattle.rb_plan_client.specs.Task.{Message}
-use Rattle.rb_scan.specs.declared.message.Kind.{Kind}
-use Rattle.rb_scan.specs.declared.message.Kind.TheVariants.{Receive, Acknowledge, Timeout}
-use Rattle.rb_script_types.specs.Refusal.{number_of, name_of}
 use Rattle.rb_script_types.specs.declared.goal.Goal.{Goal}
-use Rattle.rb_script_types.specs.declared.goal.Goal.TheVariants.{Exactly, AtLeast}
 use Rattle.rb_script_types.specs.declared.refusal.Refusal.{Refusal}
 use Rattle.rb_script_types.specs.declared.version.Version.{Version}
 use Rattle.rb_script_types.specs.declared.version.Version.TheVariants.{One, Two, Three, Four}
 use Rattle.rb_step.specs.Sent.{SentVotes}
 use Rattle.rb_super_turn.specs.Report.{RefusedEvent, PricedUpdate, SendingReport, nothing, too_big, batched, PlanReport, PlannedReport, Outcome, held, idle, planned, ClientReport, SettlementReport, TurnReport, Report}
-use Rattle.rb_text_export.specs.Json.{Json, number, boolean, string, array, object, ◌is◌, json_text}
-
-abbrev pub Member : Type 0
-Member = List ℕ × Json
 
 -- ---- refusals and settlements
-
--- why something was refused
-abbrev pub refusal_members : Refusal → List Member
-refusal_members refusal = codes "number" is number (number_of refusal) ∷ codes "name" is string (name_of refusal) ∷ []
 
 abbrev pub refused_json : RefusedEvent → Json
 refused_json r = object (codes "event" is number r.event ∷ refusal_members r.refusal)
@@ -42,10 +31,6 @@ abbrev pub settlement_json : SettlementReport → Json
 settlement_json x = object (codes "client" is string x.id ∷ settled_members x)
 
 -- ---- plans
-
-abbrev pub goal_json : Goal → Json
-goal_json (AtLeast height) = object (codes "at_least" is number height ∷ [])
-goal_json (Exactly height) = object (codes "exactly" is number height ∷ [])
 
 abbrev pub label_json : Label → Json
 label_json l = object (codes "height" is number l.height ∷ codes "fee" is number l.cost.fee ∷ codes "count" is number l.cost.count ∷ [])
@@ -69,11 +54,6 @@ update_json u =
 
 abbrev pub total_json : Cost → Json
 total_json total = object (codes "fee" is number total.fee ∷ codes "updates" is number total.count ∷ [])
-
-abbrev pub kind_name : Kind → List ℕ
-kind_name Receive = codes "recv"
-kind_name Acknowledge = codes "ack"
-kind_name Timeout = codes "timeout"
 
 -- a packet message, its path by its identifier
 abbrev pub message_json : List (List ℕ) → Message → Json
@@ -103,15 +83,6 @@ if_four One ms = []
 if_four Two ms = []
 if_four Three ms = []
 if_four Four ms = ms
-
--- when a client has a goal next, from version 3 on
-abbrev pub next_members : Version → Option ℕ → List Member
-next_members One next = []
-next_members Two next = []
-next_members Three None = []
-next_members Three (Some moment) = codes "next" is string (moment_text moment) ∷ []
-next_members Four None = []
-next_members Four (Some moment) = codes "next" is string (moment_text moment) ∷ []
 
 -- what stands behind the labels: the plan, if there is one
 abbrev pub reached_members : Version → List (List ℕ) → Option ℕ → Option PlanReport → List Member
@@ -173,26 +144,15 @@ turn_members version chains paths t = windows_members version chains t.hosts_bac
 abbrev pub turn_json : Version → List (List ℕ) → List (List ℕ) → TurnReport → Json
 turn_json version chains paths t = object (codes "window_back" is boolean t.window_back ∷ turn_members version chains paths t)
 
--- the format of versions 1 and 2 is one
-abbrev pub format_of : Version → ℕ
-format_of One = 1
-format_of Two = 1
-format_of Three = 3
-format_of Four = 4
-
-abbrev pub report_json : Version → List (List ℕ) → List (List ℕ) → Report → Json
-report_json version chains paths turns =
-    object (codes "ibcplan" is number (format_of version) ∷ codes "turns" is array (map (turn_json version chains paths) turns) ∷ [])
+-- the first members of a report's object
+abbrev pub report_members : Version → List (List ℕ) → List (List ℕ) → Report → List Member
+report_members version chains paths turns =
+    codes "ibcplan" is number (format_of version) ∷ codes "turns" is array (map (turn_json version chains paths) turns) ∷ []
 
 -- a turn as follow answers it, with its number from 1
 abbrev pub numbered_turn_json : ℕ → Version → List (List ℕ) → List (List ℕ) → TurnReport → Json
 numbered_turn_json n version chains paths t =
     object (codes "turn" is number n ∷ codes "window_back" is boolean t.window_back ∷ turn_members version chains paths t)
 
--- ---- lines
-
 abbrev pub numbered_turn_line : ℕ → Version → List (List ℕ) → List (List ℕ) → TurnReport → List ℕ
 numbered_turn_line n version chains paths t = json_text (numbered_turn_json n version chains paths t) ++ codes "\n"
-
-abbrev pub report_line : Version → List (List ℕ) → List (List ℕ) → Report → List ℕ
-report_line version chains paths turns = json_text (report_json version chains paths turns) ++ codes "\n"

@@ -1,20 +1,21 @@
 //! A report as JSON. Identifiers have no character that JSON escapes.
-ghost use Rattle.std.specs.Prelude.{◌≡◌, ◌++◌, ◌∷◌, [], codes, map, slice_index_or, IfOk, OnOk, string_bytes};
+ghost use Rattle.std.specs.Prelude.{◌≡◌, ◌++◌, ◌∷◌, [], false, codes, map, slice_index_or, IfOk, OnOk, string_bytes};
 ghost use Rattle.std.specs.List.{flat_map};
 ghost use Rattle.std.specs.Option.{option_map};
 ghost use Rattle.rb_step.specs.Sent.{sent_view};
 ghost use Rattle.rb_super_turn.specs.Report.{batched, planned as outcome_planned};
 ghost use Rattle.rb_super_turn.specs.Views.{refused_view, priced_view, batch_view, sending_view, plan_view, planned_view, outcome_view, client_report_view, settlement_view, turn_report_view, report_view};
-ghost use Rattle.rb_text_export.specs.Json.{array, boolean, json_text, more_text, ◌is◌};
-ghost use Rattle.rb_text_export.specs.ReportJson.{address_json, byte_digits, beyond_members, came_members, client_json, client_members, format_of, goal_json, host_json, if_refused, kind_name, label_json, labelled_members, left_members, message_json, next_members, outcome_members, plan_members, planned_word, reached_members, refusal_members, refused_json, report_json, report_line, sending_members, settled_members, settlement_json, total_json, transaction_json, numbered_turn_json, numbered_turn_line, turn_json, turn_members, update_json, votes_members, windows_members};
+ghost use Rattle.rb_script_text.specs.Json.{array, boolean, json_text, members_of, members_text, more_text, ◌is◌};
+ghost use Rattle.rb_text_export.specs.ReportJson.{address_json, byte_digits, beyond_members, came_members, client_json, client_members, host_json, if_refused, label_json, labelled_members, left_members, message_json, outcome_members, plan_members, planned_word, reached_members, refused_json, report_members, sending_members, settled_members, settlement_json, total_json, transaction_json, numbered_turn_json, numbered_turn_line, turn_json, turn_members, update_json, votes_members, windows_members};
 
-use crate::members::{push_boolean, push_comma, push_name, push_number, push_string, push_text};
 use rb_base::{ChainId, Moment, PathId};
 use rb_batch::Transaction;
 use rb_plan_client::Message;
 use rb_plan_types::{Cost, Label};
-use rb_scan::Kind;
-use rb_script_text::push_moment;
+use rb_script_text::{
+    format_of, kind_name, push_boolean, push_comma, push_goal, push_name, push_next, push_number,
+    push_refusal, push_string, push_text,
+};
 use rb_script_types::{Goal, Refusal, Version};
 use rb_step::SentVotes;
 use rb_super_turn::{
@@ -23,14 +24,21 @@ use rb_super_turn::{
 };
 use std::alloc::{AllocError, Global};
 
-/// The report as one object of JSON, and a line feed.
-pub fn json_of(alloc: Global, report: &Report) -> Result<String, AllocError>
-    ensures json { IfOk result (λ text. string_bytes text ≡ report_line report.now.version report.now.chains.items report.now.paths.items (report_view report.now)) }
+/// Adds the first members of the report's object: the number of the format, and the turns.
+pub fn push_report(text: &mut String, report: &Report) -> Result<(), AllocError>
+    ensures { OnOk result (string_bytes text.new
+        ≡ string_bytes text.old ++ members_text false (members_of (report_members report.now.version report.now.chains.items report.now.paths.items (report_view report.now)))) }
 {
-    let mut text = String::new(alloc);
-    push_report(&mut text, report)?;
-    text.push_str("\n")?;
-    Ok(text)
+    let version = report.version;
+    push_number(text, false, "ibcplan", format_of(version))?;
+    push_name(text, true, "turns")?;
+    push_turns(
+        text,
+        version,
+        report.chains.as_slice(),
+        report.paths.as_slice(),
+        report.turns.as_slice(),
+    )
 }
 
 /// The report of a turn as one object of JSON, as it stands in that of the script, behind its number, and a line feed.
@@ -82,35 +90,6 @@ fn push_window_back(
     push_turn_members(text, version, chains, paths, turn)
 }
 
-/// The number of the format: that of versions 1 and 2 is 1.
-fn format_of(version: Version) -> u64
-    ensures { result ≡ format_of version }
-{
-    match version {
-        Version::One | Version::Two => 1,
-        Version::Three => 3,
-        Version::Four => 4,
-    }
-}
-
-fn push_report(text: &mut String, report: &Report) -> Result<(), AllocError>
-    ensures { OnOk result (string_bytes text.new
-        ≡ string_bytes text.old ++ json_text (report_json report.now.version report.now.chains.items report.now.paths.items (report_view report.now))) }
-{
-    let version = report.version;
-    text.push_str("{")?;
-    push_number(text, false, "ibcplan", format_of(version))?;
-    push_name(text, true, "turns")?;
-    push_turns(
-        text,
-        version,
-        report.chains.as_slice(),
-        report.paths.as_slice(),
-        report.turns.as_slice(),
-    )?;
-    text.push_str("}")
-}
-
 fn push_turns(
     text: &mut String,
     version: Version,
@@ -145,7 +124,7 @@ fn push_turn(
 }
 
 /// Adds what stands behind whether the turn's window was refused.
-#[tactic(auto, using(crate::proofs::Joined::more_append), unfolding(crate::specs::ReportJson::turn_members))]
+#[tactic(auto, using(rb_script_text::proofs::Added::more_append), unfolding(crate::specs::ReportJson::turn_members))]
 fn push_turn_members(
     text: &mut String,
     version: Version,
@@ -272,14 +251,6 @@ fn push_refused(text: &mut String, refused: &RefusedEvent) -> Result<(), AllocEr
     text.push_str("}")
 }
 
-/// Adds why something is refused, behind other members.
-fn push_refusal(text: &mut String, refusal: &Refusal) -> Result<(), AllocError>
-    ensures { OnOk result (string_bytes text.new ≡ string_bytes text.old ++ more_text (refusal_members refusal.now)) }
-{
-    push_number(text, true, "number", u64::from(refusal.number()))?;
-    push_text(text, true, "name", refusal.name())
-}
-
 fn push_settlement(text: &mut String, settlement: &SettlementReport) -> Result<(), AllocError>
     ensures { OnOk result (string_bytes text.new ≡ string_bytes text.old ++ json_text (settlement_json (settlement_view settlement.now))) }
 {
@@ -322,7 +293,7 @@ fn push_client(
 }
 
 /// Adds what came of a client, and what of its messages is left out.
-#[tactic(auto, using(crate::proofs::Joined::more_append), unfolding(crate::specs::ReportJson::client_members))]
+#[tactic(auto, using(rb_script_text::proofs::Added::more_append), unfolding(crate::specs::ReportJson::client_members))]
 fn push_client_members(
     text: &mut String,
     version: Version,
@@ -383,21 +354,6 @@ fn push_outcome(
     }
 }
 
-/// Adds when a client has a goal next, from version 3 on.
-fn push_next(text: &mut String, version: Version, next: Option<Moment>) -> Result<(), AllocError>
-    ensures { OnOk result (string_bytes text.new ≡ string_bytes text.old ++ more_text (next_members version next)) }
-{
-    match (version, next) {
-        (Version::Three | Version::Four, Some(moment)) => {
-            push_name(text, true, "next")?;
-            text.push_str("\"")?;
-            push_moment(text, moment)?;
-            text.push_str("\"")
-        }
-        _ => Ok(()),
-    }
-}
-
 fn push_planned(
     text: &mut String,
     version: Version,
@@ -414,7 +370,7 @@ fn push_planned(
 }
 
 /// Adds what stands behind the goal: what was asked for and is out of reach, the labels, and the plan, if there is one.
-#[tactic(auto, using(crate::proofs::Joined::more_append), unfolding(crate::specs::ReportJson::labelled_members))]
+#[tactic(auto, using(rb_script_text::proofs::Added::more_append), unfolding(crate::specs::ReportJson::labelled_members))]
 fn push_labelled(
     text: &mut String,
     version: Version,
@@ -450,17 +406,6 @@ fn planned_word(plan: &Option<PlanReport>) -> &'static str
         Some(_) => "plan",
         None => "unreachable",
     }
-}
-
-fn push_goal(text: &mut String, goal: Goal) -> Result<(), AllocError>
-    ensures { OnOk result (string_bytes text.new ≡ string_bytes text.old ++ json_text (goal_json goal)) }
-{
-    text.push_str("{")?;
-    match goal {
-        Goal::AtLeast(height) => push_number(text, false, "at_least", height.get())?,
-        Goal::Exactly(height) => push_number(text, false, "exactly", height.get())?,
-    }
-    text.push_str("}")
 }
 
 fn push_labels(text: &mut String, labels: &[Label]) -> Result<(), AllocError>
@@ -619,17 +564,6 @@ fn push_message(text: &mut String, paths: &[PathId], message: &Message) -> Resul
     push_text(text, true, "path", id_of(paths, message.path()))?;
     push_number(text, true, "sequence", packet.sequence.get())?;
     text.push_str("}")
-}
-
-/// The word that a report has for a message of this kind.
-pub(crate) fn kind_name(kind: Kind) -> &'static str
-    ensures { result.now ≡ kind_name kind }
-{
-    match kind {
-        Kind::Receive => "recv",
-        Kind::Acknowledge => "ack",
-        Kind::Timeout => "timeout",
-    }
 }
 
 /// The identifier of the path at a place.

@@ -3,12 +3,10 @@
 
 mod commands;
 mod json;
-mod members;
 mod packet_commands;
 mod windows;
 mod words;
 
 pub use commands::commands_of;
-pub use json::{json_of, json_of_turn};
-pub use members::{push_name, push_number, push_text};
+pub use json::{json_of_turn, push_report};
 pub use windows::Setting;

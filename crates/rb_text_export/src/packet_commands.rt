@@ -6,10 +6,10 @@ ghost use Rattle.rb_script_types.specs.Config.{config_view};
 ghost use Rattle.rb_text_export.specs.Commands.{acknowledge_begin, before, before_is, begin_text, command_text, end_text, is_alike, is_next, line_begin, line_end, message_text, named_counterparty, next_is, packets_text, receive_begin, run_begin, sequence_text, unnamed_text};
 
 use crate::commands::chain_at;
-use crate::json::kind_name;
 use crate::words::push_option;
 use rb_plan_client::Message;
 use rb_scan::Kind;
+use rb_script_text::kind_name;
 use rb_script_types::{ChannelEnd, Config, PathConfig};
 use std::alloc::AllocError;
 

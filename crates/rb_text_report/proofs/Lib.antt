@@ -1,5 +1,4 @@
 pub mod Beginnings
 pub mod Labels
 pub mod Numbered
-pub mod Opened
 pub mod Shown

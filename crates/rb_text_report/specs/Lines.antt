@@ -1,9 +1,9 @@
--- Clients as lines of text, and as a part of a report's JSON (RFC 8259): whether the newest consensus state that a client has stored is live, and when
+-- Clients as lines of text, and as a member of a report's JSON: whether the newest consensus state that a client has stored is live, and when
 -- it expires.
-use Rattle.std.specs.Prelude.{◌≡◌, ◌≢◌, ◌⊎◌, ℕ, ◌-◌, nat_lt, Bool, List, [], ◌∷◌, ◌++◌, codes, if◌then◌else◌}
-use Rattle.std.specs.List.{flat_map}
+use Rattle.std.specs.Prelude.{ℕ, ◌-◌, nat_lt, Bool, List, [], ◌∷◌, ◌++◌, codes, map, if◌then◌else◌, Option, Some, None}
 use Rattle.std.specs.Option.{option_map_or}
 use Rattle.std.specs.Fmt.{decimal}
+use Rattle.rb_script_text.specs.Json.{Json, array, boolean, object, string, ◌is◌}
 use Rattle.rb_script_text.specs.Lengths.{length_text}
 use Rattle.rb_script_text.specs.Moments.{instant_text}
 use Rattle.rb_text_report.specs.declared.expiry.Expiry.{Expiry}
@@ -38,33 +38,17 @@ line_text h = codes "client " ++ h.client.id ++ codes " " ++ option_map_or expir
 
 -- ---- JSON; identifiers have no character that it escapes
 
-unfoldable pub expiry_members : Expiry → List ℕ
-expiry_members e = codes ", \"expires\": \"" ++ instant_text e.expires ++ codes "\", \"live\": " ++ (if is_live e then codes "true" else codes "false")
+abbrev pub expiry_members : Expiry → List (List ℕ × Json)
+expiry_members e = codes "expires" is string (instant_text e.expires) ∷ codes "live" is boolean (is_live e) ∷ []
 
--- of a client
-unfoldable pub client_json : ClientHealth → List ℕ
-client_json h = codes "{\"id\": \"" ++ h.client.id ++ codes "\"" ++ option_map_or expiry_members h.expiry [] ++ codes "}"
+-- when the newest consensus state that a client has stored expires, if there is one
+abbrev pub stored_members : Option Expiry → List (List ℕ × Json)
+stored_members None = []
+stored_members (Some e) = expiry_members e
 
-abbrev pub next_json : ClientHealth → List ℕ
-next_json h = codes ", " ++ client_json h
+abbrev pub client_json : ClientHealth → Json
+client_json h = object (codes "id" is string h.client.id ∷ stored_members h.expiry)
 
--- the elements of an array: a comma stands before each but the first
-abbrev pub elements : List ClientHealth → List ℕ
-elements [] = []
-elements (h ∷ hs) = client_json h ++ flat_map next_json hs
-
--- the member of the report's object that tells its clients
-unfoldable pub clients_member : List ClientHealth → List ℕ
-clients_member hs = codes ", \"clients\": [" ++ elements hs ++ codes "]"
-
--- the end of the report's object
-abbrev pub end : List ℕ
-end = codes "}\n"
-
--- the report without its end, or all of it where it ends otherwise
-abbrev pub IsOpened : List ℕ → List ℕ → Type 0
-IsOpened report rest = (report ≡ rest ++ end) ⊎ ((rest ≡ report) × ((members : List ℕ) → report ≢ members ++ end))
-
--- the report with the clients as its last member
-abbrev pub HasClients : List ℕ → List ClientHealth → List ℕ → Type 0
-HasClients report hs text = (rest : List ℕ) × IsOpened report rest × (text ≡ rest ++ clients_member hs ++ end)
+-- the member of a report's object that tells its clients
+abbrev pub clients_members : List ClientHealth → List (List ℕ × Json)
+clients_members hs = codes "clients" is array (map client_json hs) ∷ []

@@ -9,13 +9,12 @@ use Rattle.rb_script_types.specs.declared.goal.Goal.{Goal}
 use Rattle.rb_script_types.specs.declared.goal.Goal.TheVariants.{Exactly, AtLeast}
 use Rattle.rb_plan_types.specs.declared.labelling.Label.{Label}
 use Rattle.rb_script_types.specs.declared.refusal.Refusal.{Refusal}
-use Rattle.rb_scan.specs.declared.message.Kind.{Kind}
-use Rattle.rb_scan.specs.declared.message.Kind.TheVariants.{Receive, Acknowledge, Timeout}
 use Rattle.rb_plan_client.specs.Task.{Message}
 use Rattle.rb_step.specs.Sent.{SentVotes}
 use Rattle.rb_script_types.specs.declared.version.Version.{Version}
 use Rattle.rb_script_types.specs.declared.version.Version.TheVariants.{One, Two, Three, Four}
 use Rattle.rb_script_text.specs.Moments.{moment_text}
+use Rattle.rb_script_text.specs.Members.{kind_name}
 use Rattle.rb_super_turn.specs.Report.{RefusedEvent, PricedUpdate, SendingReport, nothing, too_big, batched, PlanReport, Outcome, held, idle, planned, ClientReport, SettlementReport, TurnReport, Report}
 
 -- ---- lines
@@ -68,11 +67,6 @@ update_line u =
 
 abbrev pub total_line : Cost → List ℕ
 total_line total = codes "total " ++ decimal total.fee ++ codes " updates " ++ decimal total.count ++ codes "\n"
-
-abbrev pub kind_name : Kind → List ℕ
-kind_name Receive = codes "recv"
-kind_name Acknowledge = codes "ack"
-kind_name Timeout = codes "timeout"
 
 -- a packet message, its path by its identifier
 abbrev pub message_line : List (List ℕ) → Message → List ℕ

@@ -1,99 +1,58 @@
-//! The clients as a part of a report's JSON. Identifiers have no character that JSON escapes.
-ghost use Rattle.std.specs.Prelude.{◌≡◌, ◌++◌, IfOk, OnOk, string_bytes};
-ghost use Rattle.std.specs.List.{flat_map};
-ghost use Rattle.rb_text_report.specs.Lines.{clients_member, client_json, elements, expiry_members, next_json, HasClients, IsOpened};
+//! The clients as a member of a report's JSON. Identifiers have no character that JSON escapes.
+ghost use Rattle.std.specs.Prelude.{◌≡◌, ◌++◌, map, OnOk, string_bytes};
+ghost use Rattle.rb_script_text.specs.Json.{array, json_text, more_text};
+ghost use Rattle.rb_text_report.specs.Lines.{clients_members, client_json, expiry_members, stored_members};
 
 use crate::expiry::Expiry;
 use crate::health::ClientHealth;
-use rb_script_text::push_instant;
-use std::alloc::{AllocError, Global};
+use rb_script_text::{push_boolean, push_comma, push_instant, push_name, push_text};
+use std::alloc::AllocError;
 
-/// The end of a report's object.
-const END: &str = "}\n";
-
-/// The JSON of a report with its clients as the last key: of each its identifier, and where it has stored a consensus state,
-/// when the newest one expires, and whether it is live.
-pub fn with_health(
-    alloc: Global,
-    report: &str,
-    clients: &[ClientHealth],
-) -> Result<String, AllocError>
-    ensures { IfOk result (λ text. HasClients report.now clients.now (string_bytes text)) }
+/// Adds the clients as a member behind others: of each its identifier, and where it has stored a consensus state, when
+/// the newest one expires, and whether it is live.
+pub fn push_clients(text: &mut String, clients: &[ClientHealth]) -> Result<(), AllocError>
+    ensures { OnOk result (string_bytes text.new ≡ string_bytes text.old ++ more_text (clients_members clients.now)) }
 {
-    let mut text = String::new(alloc);
-    text.push_str(opened(report))?;
-    push_clients(&mut text, clients)?;
-    text.push_str(END)?;
-    Ok(text)
+    push_name(text, true, "clients")?;
+    push_array(text, clients)
 }
 
-/// A report without its end, or all of it where it ends otherwise.
-#[tactic(auto, using(crate::proofs::Opened::opened))]
-fn opened(report: &str) -> &str
-    ensures { IsOpened report.now result.now }
+fn push_array(text: &mut String, clients: &[ClientHealth]) -> Result<(), AllocError>
+    ensures { OnOk result (string_bytes text.new ≡ string_bytes text.old ++ json_text (array (map client_json clients.now))) }
 {
-    match report.strip_suffix(END) {
-        Some(rest) => rest,
-        None => report,
+    text.push_str("[")?;
+    for (place, health) in clients.iter().enumerate() {
+        push_comma(text, place > 0)?;
+        push_client(text, health)?;
     }
-}
-
-/// Adds the clients as a member of the report.
-#[tactic(auto, unfolding(crate::specs::Lines::clients_member))]
-fn push_clients(text: &mut String, clients: &[ClientHealth]) -> Result<(), AllocError>
-    ensures { OnOk result (string_bytes text.new ≡ string_bytes text.old ++ clients_member clients.now) }
-{
-    text.push_str(", \"clients\": [")?;
-    push_elements(text, clients)?;
     text.push_str("]")
 }
 
-fn push_elements(text: &mut String, clients: &[ClientHealth]) -> Result<(), AllocError>
-    ensures { OnOk result (string_bytes text.new ≡ string_bytes text.old ++ elements clients.now) }
+fn push_client(text: &mut String, health: &ClientHealth) -> Result<(), AllocError>
+    ensures { OnOk result (string_bytes text.new ≡ string_bytes text.old ++ json_text (client_json health.now)) }
 {
-    match clients.split_first() {
-        Some((first, others)) => {
-            push_client(text, first)?;
-            push_others(text, others)
-        }
+    text.push_str("{")?;
+    push_text(text, false, "id", health.client.id.as_str())?;
+    push_stored(text, health.expiry)?;
+    text.push_str("}")
+}
+
+/// Adds when the newest consensus state that is stored expires, if there is one.
+fn push_stored(text: &mut String, expiry: Option<Expiry>) -> Result<(), AllocError>
+    ensures { OnOk result (string_bytes text.new ≡ string_bytes text.old ++ more_text (stored_members expiry)) }
+{
+    match expiry {
+        Some(expiry) => push_expiry(text, expiry),
         None => Ok(()),
     }
 }
 
-fn push_others(text: &mut String, clients: &[ClientHealth]) -> Result<(), AllocError>
-    ensures { OnOk result (string_bytes text.new ≡ string_bytes text.old ++ flat_map next_json clients.now) }
-{
-    for health in clients {
-        push_next(text, health)?;
-    }
-    Ok(())
-}
-
-fn push_next(text: &mut String, health: &ClientHealth) -> Result<(), AllocError>
-    ensures { OnOk result (string_bytes text.new ≡ string_bytes text.old ++ next_json health.now) }
-{
-    text.push_str(", ")?;
-    push_client(text, health)
-}
-
-#[tactic(auto, unfolding(crate::specs::Lines::client_json))]
-fn push_client(text: &mut String, health: &ClientHealth) -> Result<(), AllocError>
-    ensures { OnOk result (string_bytes text.new ≡ string_bytes text.old ++ client_json health.now) }
-{
-    let id = health.client.id.as_str();
-    write!(text, "{{\"id\": \"{id}\"")?;
-    if let Some(expiry) = health.expiry {
-        push_expiry(text, expiry)?;
-    }
-    text.push_str("}")
-}
-
-#[tactic(auto, unfolding(crate::specs::Lines::expiry_members))]
 fn push_expiry(text: &mut String, expiry: Expiry) -> Result<(), AllocError>
-    ensures { OnOk result (string_bytes text.new ≡ string_bytes text.old ++ expiry_members expiry) }
+    ensures { OnOk result (string_bytes text.new ≡ string_bytes text.old ++ more_text (expiry_members expiry)) }
 {
-    text.push_str(", \"expires\": \"")?;
+    push_name(text, true, "expires")?;
+    text.push_str("\"")?;
     push_instant(text, expiry.expires)?;
-    text.push_str("\", \"live\": ")?;
-    text.push_str(if expiry.is_live() { "true" } else { "false" })
+    text.push_str("\"")?;
+    push_boolean(text, true, "live", expiry.is_live())
 }

@@ -1,6 +1,6 @@
 //! The texts of reports and certificates: the report that is written (`push_turn`, `write_report`), the certificate that is
-//! read, and the line of a verdict; and when each client of a script expires, by the consensus states that it has stored
-//! after the last turn: as lines of text, as metrics, and as a part of a report's JSON (`healths_of`).
+//! read, and the line of a verdict, also as JSON; and when each client of a script expires, by the consensus states that it has stored
+//! after the last turn: as lines of text, as metrics, and as a member of a report's JSON (`healths_of`).
 #![tactic(auto)]
 
 mod certificate;
@@ -11,14 +11,16 @@ mod metrics;
 mod report;
 mod text;
 mod verdict;
+mod verdict_object;
 mod write;
 
 pub use certificate::{Certificate, read_certificate};
 pub use expiry::Expiry;
 pub use health::{ClientHealth, healths_of};
-pub use json::with_health;
+pub use json::push_clients;
 pub use metrics::metrics_of;
 pub use report::push_turn;
 pub use text::text_of;
 pub use verdict::{is_yes, push_verdict};
+pub use verdict_object::verdict_json;
 pub use write::{first_line, put, write_report};

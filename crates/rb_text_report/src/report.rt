@@ -6,15 +6,14 @@ ghost use Rattle.std.specs.Option.{option_map};
 ghost use Rattle.rb_super_turn.specs.Views.{refused_view, priced_view, sending_view, plan_view, planned_view, outcome_view, client_report_view, settlement_view, turn_report_view};
 ghost use Rattle.rb_step.specs.Sent.{sent_view};
 ghost use Rattle.rb_super_turn.specs.Report.{planned as outcome_planned};
-ghost use Rattle.rb_text_report.specs.Report.{refused_line, goal_line, label_line, update_line, votes_text, total_line, kind_name, message_line, left_line, beyond_line, beyond_text, batch_line, transaction_line, numbered_lines, sending_text, next_text, plan_text, outcome_text, client_text, settled_line, refusal_text, refused_settle_line, settlement_text, host_line, windows_text, head_text, turn_text};
+ghost use Rattle.rb_text_report.specs.Report.{refused_line, goal_line, label_line, update_line, votes_text, total_line, message_line, left_line, beyond_line, beyond_text, batch_line, transaction_line, numbered_lines, sending_text, next_text, plan_text, outcome_text, client_text, settled_line, refusal_text, refused_settle_line, settlement_text, host_line, windows_text, head_text, turn_text};
 
 use itoa::Buffer;
 use rb_base::{ChainId, Height, Moment, PathId};
 use rb_batch::Transaction;
 use rb_plan_client::Message;
 use rb_plan_types::{Cost, Label};
-use rb_scan::Kind;
-use rb_script_text::push_moment;
+use rb_script_text::{kind_name, push_moment};
 use rb_script_types::{Goal, Refusal, Version};
 use rb_step::SentVotes;
 use rb_super_turn::{
@@ -197,24 +196,14 @@ fn id_of(paths: &[PathId], path: usize) -> &str
     }
 }
 
-/// What a message's line begins with.
-fn line_head(kind: Kind) -> &'static str
-    ensures { result.now ≡ kind_name kind ++ codes " " }
-{
-    match kind {
-        Kind::Receive => "recv ",
-        Kind::Acknowledge => "ack ",
-        Kind::Timeout => "timeout ",
-    }
-}
-
 fn push_message(text: &mut String, paths: &[PathId], message: &Message) -> Result<(), AllocError>
     ensures { OnOk result (string_bytes text.new ≡ string_bytes text.old ++ message_line paths.now message.now) }
 {
     let id = id_of(paths, message.path());
     let packet = message.packet();
     let sequence = packet.sequence;
-    text.push_str(line_head(packet.kind))?;
+    text.push_str(kind_name(packet.kind))?;
+    text.push_str(" ")?;
     text.push_str(id)?;
     text.push_str(" ")?;
     push_number(text, sequence.get())?;

@@ -1,6 +1,6 @@
 use Rattle.std.proofs.Common.{string_bytes}
 use Rattle.rb_script_toml.specs.Faults.{fault_view}
-use Rattle.rb_text_export.proofs.Joined.{members_told}
+use Rattle.rb_script_text.proofs.Added.{members_told}
 use Rattle.rb_follow.specs.FaultJson.{named_members, turn_members}
 use Rattle.rb_follow.proofs.told.push_placed.Goals as goal
 

@@ -1,9 +1,9 @@
 use Rattle.std.proofs.Common.{◌≡◌, ◌++◌, string_bytes, subst}
 use Rattle.std.specs.Result.{OnOk}
 use Rattle.rb_super_turn.specs.Views.{outcome_view}
-use Rattle.rb_text_export.specs.Json.{more_text}
+use Rattle.rb_script_text.specs.Json.{more_text}
 use Rattle.rb_text_export.specs.ReportJson.{client_members, left_members, outcome_members}
-use Rattle.rb_text_export.proofs.Joined.{members_told}
+use Rattle.rb_script_text.proofs.Added.{members_told}
 use Rattle.rb_text_export.proofs.json.push_client_members.Goals as goal
 
 pub returns : goal.returns

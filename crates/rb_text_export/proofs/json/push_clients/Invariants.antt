@@ -1,6 +1,6 @@
 use Rattle.std.proofs.Common.{◌≡◌, ◌++◌, codes, drop, map, nat_lt, false, string_bytes}
 use Rattle.rb_super_turn.specs.Views.{client_report_view}
-use Rattle.rb_text_export.specs.Json.{items_of, items_text}
+use Rattle.rb_script_text.specs.Json.{items_of, items_text}
 use Rattle.rb_text_export.specs.ReportJson.{client_json}
 use Rattle.rb_text_export.proofs.json.push_clients.Given as goal
 

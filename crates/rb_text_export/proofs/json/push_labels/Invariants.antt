@@ -1,5 +1,5 @@
 use Rattle.std.proofs.Common.{◌≡◌, ◌++◌, codes, drop, map, nat_lt, false, string_bytes}
-use Rattle.rb_text_export.specs.Json.{items_of, items_text}
+use Rattle.rb_script_text.specs.Json.{items_of, items_text}
 use Rattle.rb_text_export.specs.ReportJson.{label_json}
 use Rattle.rb_text_export.proofs.json.push_labels.Given as goal
 

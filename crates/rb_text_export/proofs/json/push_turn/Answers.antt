@@ -1,8 +1,8 @@
 use Rattle.std.proofs.Common.{◌++◌, codes, false, string_bytes}
 use Rattle.rb_super_turn.specs.Views.{turn_report_view}
-use Rattle.rb_text_export.specs.Json.{boolean_text, more_text, name_text}
+use Rattle.rb_script_text.specs.Json.{boolean_text, more_text, name_text}
 use Rattle.rb_text_export.specs.ReportJson.{turn_members}
-use Rattle.rb_text_export.proofs.Joined.{closed_ok}
+use Rattle.rb_script_text.proofs.Added.{closed_ok}
 use Rattle.rb_text_export.proofs.json.push_turn.Goals as goal
 
 pub returns : goal.returns

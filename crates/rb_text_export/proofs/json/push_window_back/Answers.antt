@@ -1,8 +1,8 @@
 use Rattle.std.proofs.Common.{◌++◌, ◌∷◌, [], codes, true, string_bytes, append-nil, sym, ap, ◌∙◌}
 use Rattle.rb_super_turn.specs.Views.{turn_report_view}
-use Rattle.rb_text_export.specs.Json.{boolean, boolean_text, name_text, ◌is◌}
+use Rattle.rb_script_text.specs.Json.{boolean, boolean_text, name_text, ◌is◌}
 use Rattle.rb_text_export.specs.ReportJson.{turn_members}
-use Rattle.rb_text_export.proofs.Joined.{members_told}
+use Rattle.rb_script_text.proofs.Added.{members_told}
 use Rattle.rb_text_export.proofs.json.push_window_back.Goals as goal
 
 pub returns : goal.returns

@@ -1,5 +1,5 @@
 use Rattle.std.proofs.Common.{string_bytes}
-use Rattle.rb_text_export.proofs.Joined.{hosts_told}
+use Rattle.rb_text_export.proofs.Hosts.{hosts_told}
 use Rattle.rb_text_export.proofs.json.push_windows.Goals as goal
 
 pub returns-in_ok-push_name-in-Four : goal.returns-in_ok-push_name-in-Four

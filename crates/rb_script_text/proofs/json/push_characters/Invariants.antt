@@ -1,6 +1,6 @@
 use Rattle.std.proofs.Common.{◌≡◌, ◌++◌, string_bytes, flat_map}
-use Rattle.rb_text_export.specs.Json.{escape}
-use Rattle.rb_follow.proofs.told.push_escaped.Given as goal
+use Rattle.rb_script_text.specs.Json.{escape}
+use Rattle.rb_script_text.proofs.json.push_characters.Given as goal
 
 -- what is written goes on with the characters so far
 abbrev pub invariant-loop-character : goal.invariant-loop-character

@@ -1,5 +1,5 @@
 //! Verdicts on certificates as JSON.
-use rb_text_export::{push_name, push_text};
+use rb_script_text::{push_name, push_text};
 use std::alloc::{AllocError, Global};
 use std::str;
 

@@ -1,5 +1,5 @@
 -- Values of JSON and their texts (RFC 8259). A blank stands behind each comma and each colon (own choice).
-use Rattle.std.specs.Prelude.{ℕ, Bool, false, true, if◌then◌else◌, List, [], ◌∷◌, ◌++◌, codes, ◌||◌, ◌==◌, flat_map}
+use Rattle.std.specs.Prelude.{ℕ, Bool, false, true, if◌then◌else◌, List, [], ◌∷◌, ◌++◌, codes, ◌||◌, ◌==◌, flat_map, Option, Some, None}
 use Rattle.std.specs.Char.{encode_utf8}
 use Rattle.std.specs.Fmt.{decimal}
 use Rattle.std.specs.Str.{chars}
@@ -7,6 +7,7 @@ use Rattle.std.specs.Str.{chars}
 -- the characters of a string are those between its quotation marks
 mutual
   pub data Json : Type 0 where
+    null : Json
     number : ℕ → Json
     boolean : Bool → Json
     string : List ℕ → Json
@@ -42,6 +43,10 @@ members_of (m ∷ ms) = member m.0 m.1 (members_of ms)
 abbrev pub object : List (List ℕ × Json) → Json
 object ms = members (members_of ms)
 
+abbrev pub number_or_null : Option ℕ → Json
+number_or_null None = null
+number_or_null (Some n) = number n
+
 -- ---- texts
 
 -- a quotation mark and a backslash stand behind a backslash
@@ -70,6 +75,7 @@ name_text later name = comma_if later ++ string_text name ++ codes ": "
 
 abbrev mutual
   pub json_text : Json → List ℕ
+  json_text null = codes "null"
   json_text (number n) = decimal n
   json_text (boolean b) = boolean_text b
   json_text (string characters) = string_text characters

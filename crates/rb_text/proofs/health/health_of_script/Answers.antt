@@ -1,5 +1,5 @@
 use Rattle.std.proofs.Crossing.{frees}
-use Rattle.ibcplan.proofs.health.health_of_script.Goals as goal
+use Rattle.rb_text.proofs.health.health_of_script.Goals as goal
 
 -- the heap frees what any thread took of it
 pub run_to_end-requires-clause-alloc : goal.run_to_end-requires-clause-alloc

@@ -1,7 +1,7 @@
 //! When the clients of a script expire, as lines and as metrics.
 ghost use Rattle.std.specs.Prelude.{IfOk, string_bytes};
 ghost use Rattle.rb_script_types.specs.Script.{script_view, IsReadScript};
-ghost use Rattle.ibcplan.specs.Forms.{IsHealthOf};
+ghost use Rattle.rb_text.specs.Healths.{IsHealthOf};
 
 use rb_base::Gate;
 use rb_script_types::Script;

@@ -2,8 +2,8 @@ use Rattle.std.proofs.Common.{ap, sym, flat_map, ◌∙◌, ◌++◌, string_byt
 use Rattle.std.proofs.lemmas.List.{map-id}
 use Rattle.std.proofs.lemmas.Iterator.{YieldsList-from_chars}
 use Rattle.std.proofs.lemmas.Iterator.Consumers.{YieldsList-end}
-use Rattle.rb_text_export.specs.Json.{escape}
-use Rattle.rb_follow.proofs.told.push_escaped.Goals as goal
+use Rattle.rb_script_text.specs.Json.{escape}
+use Rattle.rb_script_text.proofs.json.push_characters.Goals as goal
 
 pub returns : goal.returns
 returns c =
