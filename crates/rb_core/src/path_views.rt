@@ -37,8 +37,8 @@ fn last_scan<A: Allocator + Copy>(state: &CoreState<A>, path: usize, part: Part)
     }
 }
 
-/// A path as it is scanned. `UnknownObject` where there is none at this place, `NoMemory` where a
-/// growth is refused.
+/// A path as it is scanned: the view of its last scan where the path is still so. `UnknownObject` where there is
+/// none at this place, `NoMemory` where a growth is refused.
 pub(crate) fn path_view<A: Allocator + Copy>(
     alloc: A,
     state: &CoreState<A>,
@@ -50,6 +50,9 @@ pub(crate) fn path_view<A: Allocator + Copy>(
     let Some(path_state) = find_path(state, path) else {
         return Err(CoreError::Refused(Refusal::UnknownObject));
     };
+    if let Some(scan) = valid_scan(state, path, Part::Packets) {
+        return Ok(scan.view().share()?);
+    }
     let view = view_of(alloc, state.books.as_slice(), path_state)?;
     Ok(view)
 }

@@ -67,7 +67,7 @@ pub fn view_of<A: Allocator + Copy>(
     let config = path.config();
     let sent = Vec::from_slice(alloc, path.packets())?;
     let list = times_in(alloc, books, config.destination)?;
-    Ok(PathView::new(config.order, path.first(), sent, path.is_closed(), list))
+    PathView::new(config.order, path.first(), sent, path.is_closed(), list)
 }
 
 fn same_packets(packets: &[Packet], others: &[Packet]) -> bool

@@ -209,16 +209,6 @@ pub first-messages : (path : Path) (kind : Kind) → IsPath path → kind ≡ Ti
     → filter_map (message_of path.destination kind) (take (min (length (rest path kind)) 1) (rest path kind)) ≡ open_messages Ordered path kind
 first-messages path kind h is = rw is (first-rest path Timeout h)
 
--- ---- how many messages are made
-pub count-made : {X : Type 0} (h : Packet → Option X) (ps : List Packet) → count_by (λ p. is_some (h p)) ps ≡ length (filter_map h ps)
-count-made h [] = refl
-count-made h (p ∷ ps) =
-    sum_by-cons _ p ps
-    ∙ elim (h p) as (λ o. cond (is_some o) 1 0 + count_by (λ q. is_some (h q)) ps ≡ length (cons_option o (filter_map h ps))) [
-      | None ↦ let rest = count-made h ps in omega arith
-      | Some x ↦ let rest = count-made h ps in omega arith
-    ]
-
 -- one packet more
 pub filter_map_more : {X : Type 0} (h : Packet → Option X) (ps : List Packet) (i : ℕ) (p : Packet) → i < length ps → p ≡ get_or ps i p
     → filter_map h (take (i + 1) ps) ≡ filter_map h (take i ps) ++ option_to_list (h p)

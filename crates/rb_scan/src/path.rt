@@ -10,6 +10,7 @@ use crate::sequence::Sequence;
 use rb_base::{Height, Moment};
 use std::alloc::{AllocError, Allocator, Global};
 use std::marker::Model;
+use std::sync::Arc;
 
 /// In which order the destination receives the packets of a path (ICS 4, channel ordering).
 #[derive(Clone, Copy, PartialEq, Eq)]
@@ -20,17 +21,24 @@ pub enum Order {
     Unordered,
 }
 
-/// A path, which is one direction of a channel, as it was observed.
+/// What the owners of a path view share.
+#[derive(Drop)]
+struct Lists<A: Allocator> {
+    packets: Vec<Packet, A>,
+    destination: Vec<(Height, Moment), A>,
+}
+
+/// A path, which is one direction of a channel, as it was observed. Its lists may have several owners.
 #[derive(Drop)]
 pub struct PathView<A: Allocator = Global> {
     order: Order,
     first: Sequence,
-    packets: Vec<Packet, A>,
     closed: bool,
-    destination: Vec<(Height, Moment), A>,
+    lists: Arc<Lists<A>, A>,
 }
 
 impl<A: Allocator> Model for PathView<A> {
+    ghost use Rattle.std.specs.Arc.{arc_value};
     ghost use Rattle.rb_scan.specs.Path.{Path, IsPath};
 
     ghost Value = { Path };
@@ -38,52 +46,76 @@ impl<A: Allocator> Model for PathView<A> {
     ghost view = { λ v. record {
       order = v.order;
       first = v.first;
-      packets = v.packets.items;
+      packets = (arc_value v.lists).packets.items;
       closed = v.closed;
-      destination = v.destination.items;
+      destination = (arc_value v.lists).destination.items;
     } };
 
     ghost invariant = { λ v. IsPath (record {
       order = v.order;
       first = v.first;
-      packets = v.packets.items;
+      packets = (arc_value v.lists).packets.items;
       closed = v.closed;
-      destination = v.destination.items;
+      destination = (arc_value v.lists).destination.items;
     }) };
 }
 
-impl<A: Allocator> PathView<A> {
+impl<A: Allocator + Copy> PathView<A> {
     /// The path of these packets, all below `first` being finished and cleared, with the heights
     /// and times of the destination's known records. The sequences rise strictly from `first` on,
-    /// and heights and times rise strictly, as `is_path` tells.
+    /// and heights and times rise strictly, as `is_path` tells. `AllocError` where memory is refused.
     pub fn new(
         order: Order,
         first: Sequence,
         packets: Vec<Packet, A>,
         closed: bool,
         destination: Vec<(Height, Moment), A>,
-    ) -> PathView<A>
+    ) -> Result<PathView<A>, AllocError>
         requires sequences { IsStrictlyIncreasing (sequences_of packets.items) }
         requires from_first { AreFrom first packets.items }
         requires heights { IsStrictlyIncreasing (heights_of destination.items) }
         requires times { IsStrictlyIncreasing (times_of destination.items) }
-        ensures { result ≡ record {
+        ensures { IfOk result (λ view. view ≡ record {
           order = order;
           first = first;
           packets = packets.items;
           closed = closed;
           destination = destination.items;
-        } }
+        }) }
     {
-        PathView {
+        let alloc = *packets.allocator();
+        let lists = Lists {
+            packets,
+            destination,
+        };
+        Ok(PathView {
             order,
             first,
-            packets,
             closed,
-            destination,
-        }
+            lists: Arc::new(alloc, lists)?,
+        })
     }
 
+    /// The allocator of its lists.
+    pub(crate) fn allocator(&self) -> A {
+        *self.lists.packets.allocator()
+    }
+
+    /// The same view, for one more owner of its lists. `AllocError` where they have as many owners as can be
+    /// counted.
+    pub fn share(&self) -> Result<PathView<A>, AllocError>
+        ensures { IfOk result (λ view. view ≡ self.now) }
+    {
+        Ok(PathView {
+            order: self.order,
+            first: self.first,
+            closed: self.closed,
+            lists: Arc::try_clone(&self.lists)?,
+        })
+    }
+}
+
+impl<A: Allocator> PathView<A> {
     /// In which order its packets are received.
     pub fn order(&self) -> Order
         ensures { result ≡ self.now.order }
@@ -103,7 +135,7 @@ impl<A: Allocator> PathView<A> {
         ensures value { result.now ≡ self.now.packets }
         ensures path { IsPath self.now }
     {
-        self.packets.as_slice()
+        self.lists.packets.as_slice()
     }
 
     /// Whether it is closed.
@@ -118,28 +150,7 @@ impl<A: Allocator> PathView<A> {
         ensures value { result.now ≡ self.now.destination }
         ensures path { IsPath self.now }
     {
-        self.destination.as_slice()
-    }
-}
-
-impl<A: Allocator + Copy> PathView<A> {
-    /// The allocator of its lists.
-    pub(crate) fn allocator(&self) -> A {
-        *self.packets.allocator()
-    }
-
-    /// An equal view.
-    pub fn copy(&self) -> Result<PathView<A>, AllocError>
-        ensures { IfOk result (λ view. view ≡ self.now) }
-    {
-        let alloc = self.allocator();
-        Ok(PathView {
-            order: self.order,
-            first: self.first,
-            packets: Vec::from_slice(alloc, self.packets.as_slice())?,
-            closed: self.closed,
-            destination: Vec::from_slice(alloc, self.destination.as_slice())?,
-        })
+        self.lists.destination.as_slice()
     }
 }
 
@@ -158,8 +169,8 @@ impl<A: Allocator> PartialEq for PathView<A> {
             && self.first == other.first
             && self.closed == other.closed;
         same_terms
-            && same_packets(self.packets.as_slice(), other.packets.as_slice())
-            && same_records(self.destination.as_slice(), other.destination.as_slice())
+            && same_packets(self.packets(), other.packets())
+            && same_records(self.destination(), other.destination())
     }
 }
 

@@ -33,32 +33,18 @@ pub fn owed<A: Allocator + Copy>(view: &PathView<A>) -> Result<Vec<PacketMsg, A>
     list(view, &[Kind::Receive, Kind::Acknowledge, Kind::Timeout])
 }
 
-/// The messages of these kinds, in a list that grows once.
+/// The messages of these kinds.
 fn list<A: Allocator + Copy>(
     view: &PathView<A>,
     kinds: &[Kind],
 ) -> Result<Vec<PacketMsg, A>, AllocError>
     ensures { IfOk result (λ list. list.items ≡ flat_map (messages view.now) kinds.now) }
 {
-    let size = kinds.iter().fold(
-        0,
-        |size: usize, kind| size.saturating_add(count(view, *kind)),
-    );
-    let mut list = Vec::with_capacity(view.allocator(), size)?;
+    let mut list = Vec::new(view.allocator());
     for kind in kinds {
         append(view, *kind, &mut list)?;
     }
     Ok(list)
-}
-
-/// How many messages of a kind are owed.
-fn count<A: Allocator>(view: &PathView<A>, kind: Kind) -> usize
-    ensures { result ≡ length (messages view.now kind) }
-{
-    candidates(view, kind)
-        .iter()
-        .filter(|packet| view.message_of(kind, packet).is_some())
-        .count()
 }
 
 /// Puts the messages of a kind to the end of a list.

@@ -228,7 +228,7 @@ fn view_of(alloc: Global, row: &Row, closed: bool) -> Result<PathView, Fail> {
     if !is_path(first, &packets, &records) {
         return Err(Fail::from("no path"));
     }
-    Ok(PathView::new(row.order, first, packets, closed, records))
+    Ok(PathView::new(row.order, first, packets, closed, records)?)
 }
 
 const ROWS: &[Row] = &[
