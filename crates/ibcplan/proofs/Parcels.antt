@@ -5,7 +5,7 @@ use Rattle.std.specs.Global.{Global}
 use Rattle.rb_core.specs.Core.{Core}
 use Rattle.rb_import_setup.specs.Setups.{setup_of, setup_view}
 use Rattle.rb_import_setup.specs.declared.sender.Sender.{Sender}
-use Rattle.rb_import_setup.specs.declared.setup.Setup.{Setup}
+use Rattle.rb_import_setup.specs.declared.setup.ImportSetup.{ImportSetup}
 use Rattle.rb_messages.specs.declared.update.PlannedUpdate.{PlannedUpdate}
 use Rattle.rb_script_types.specs.Config.{config_view}
 use Rattle.rb_script_types.specs.declared.config.Config.{Config}
@@ -64,7 +64,7 @@ setup_sent known bytes asked status script senders sent (Ok told) made by is sam
       parcel = parcel;
     }) is)
 
-pub senders_read : (bytes read : List ℕ) (setup : Setup) → read ≡ bytes → setup_of read ≡ Ok (setup_view setup) → AreSendersOf bytes setup.senders.items
+pub senders_read : (bytes read : List ℕ) (setup : ImportSetup) → read ≡ bytes → setup_of read ≡ Ok (setup_view setup) → AreSendersOf bytes setup.senders.items
 senders_read bytes read setup same is = (setup_view setup, subst (λ bs. setup_of bs ≡ Ok (setup_view setup)) same is, refl)
 
 pub sent_with : (known : Option (List AnswerFile)) (config : Config Global) (relayer : Core) (us updates : List PlannedUpdate) (bs batches : List PlannedBatch) (senders : List (Option Sender)) (p : Parcel)

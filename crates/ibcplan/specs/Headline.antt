@@ -3,7 +3,7 @@ use Rattle.std.specs.Prelude.{◌≡◌, ℕ, List, Vec, Ok, Option, String, map
 use Rattle.std.specs.Global.{Global}
 use Rattle.rb_core.specs.Core.{Core}
 use Rattle.rb_import_setup.specs.Senders.{sender_view}
-use Rattle.rb_import_setup.specs.Setups.{Setup, setup_of}
+use Rattle.rb_import_setup.specs.Setups.{ImportSetup, setup_of}
 use Rattle.rb_import_setup.specs.declared.sender.Sender.{Sender}
 use Rattle.rb_messages.specs.declared.update.PlannedUpdate.{PlannedUpdate}
 use Rattle.rb_script_types.specs.Config.{config_view}
@@ -45,7 +45,7 @@ pub record IsParcelOf (known : Option (List AnswerFile)) (script : Script Global
 
 -- who sends to each chain of a setup
 abbrev pub AreSendersOf : List ℕ → List (Option Sender) → Type 0
-AreSendersOf bytes senders = (setup : Setup) × (setup_of bytes ≡ Ok setup) × (map (option_map sender_view) senders ≡ setup.senders)
+AreSendersOf bytes senders = (setup : ImportSetup) × (setup_of bytes ≡ Ok setup) × (map (option_map sender_view) senders ≡ setup.senders)
 
 -- the files of what the script sends that a setup and the files of its folders make; where the status is 0 no client and no path is left out
 pub record AreMessagesOf (known : Option (List AnswerFile)) (bytes : List ℕ) (asked : Import) (status : ℕ) (p : Parcel) : Type 0 where

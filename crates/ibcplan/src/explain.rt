@@ -3,7 +3,7 @@ ghost use Rattle.rb_script_types.specs.Script.{script_view, IsReadScript};
 
 use crate::forms::{no_such_turn, number_of};
 use crate::searching::can_search;
-use ibcplan_cli::{ProgramError, Shown, WantedTurns};
+use ibcplan_cli::{ProgramError, ShownName, WantedTurns};
 use rb_base::{Gate, Sink};
 use rb_explain::{Detail, Listener, TurnExplanation, Wanted, explain_script};
 use rb_explain_text::{picture_of, put, put_json, put_json_beginning, put_json_end, put_text};
@@ -16,7 +16,7 @@ const MOST_LINES: usize = 20;
 
 /// As what an explanation is written.
 #[derive(Clone, Copy, PartialEq, Eq)]
-pub enum Form {
+pub enum ExplanationForm {
     /// As text; all steps, or the first ones.
     Text { is_whole: bool },
     /// As JSON; all steps to a height that can't be reached, or the first ones.
@@ -25,11 +25,12 @@ pub enum Form {
     Picture,
 }
 
-impl Form {
+impl ExplanationForm {
     /// How many lines of steps are told of a client.
     fn most(self) -> usize {
         match self {
-            Form::Text { is_whole: true } | Form::Json { is_whole: true } => usize::MAX,
+            ExplanationForm::Text { is_whole: true } | ExplanationForm::Json { is_whole: true } =>
+                usize::MAX,
             _ => MOST_LINES,
         }
     }
@@ -40,7 +41,7 @@ impl Form {
 pub struct AskedExplanation<'a> {
     pub turns: WantedTurns,
     pub client: Option<&'a str>,
-    pub form: Form,
+    pub form: ExplanationForm,
 }
 
 /// The place of a client by its identifier.
@@ -55,7 +56,7 @@ fn place_of(config: &Config, id: &str) -> Option<usize> {
 fn client_of<'a>(
     asked: AskedExplanation<'a>,
     config: &Config,
-    file: Shown<'a>,
+    file: ShownName<'a>,
 ) -> Result<Option<usize>, ProgramError<'a>> {
     let Some(id) = asked.client else {
         return Ok(None);
@@ -63,7 +64,7 @@ fn client_of<'a>(
     match place_of(config, id) {
         Some(client) => Ok(Some(client)),
         None => Err(ProgramError::NoSuchClient {
-            client: Shown { name: id },
+            client: ShownName { name: id },
             file,
         }),
     }
@@ -75,11 +76,11 @@ fn wanted_of<'a>(
     alloc: Global,
     asked: AskedExplanation<'a>,
     script: &Script,
-    file: Shown<'a>,
+    file: ShownName<'a>,
 ) -> Result<Wanted, ProgramError<'a>> {
     let count = script.turns.len();
     let turns = match asked.turns {
-        WantedTurns::Every if asked.form == Form::Picture => WantedTurns::Last,
+        WantedTurns::Every if asked.form == ExplanationForm::Picture => WantedTurns::Last,
         turns => turns,
     };
     let turn = number_of(turns, count);
@@ -96,7 +97,7 @@ fn wanted_of<'a>(
         client,
         detail: Detail {
             most: asked.form.most(),
-            has_heights: asked.form == Form::Picture,
+            has_heights: asked.form == ExplanationForm::Picture,
             has_fewest,
         },
     })
@@ -108,7 +109,7 @@ pub fn explain<'a, R: Threads + Sync, G: Gate + Sync + Drop, W: Sink>(
     rt: &R,
     alloc: Global,
     script: Script,
-    file: Shown<'a>,
+    file: ShownName<'a>,
     asked: AskedExplanation<'a>,
     gate: G,
     output: &mut W,
@@ -129,14 +130,14 @@ fn explain_by<R: Threads + Sync, G: Gate + Sync, W: Sink>(
     alloc: Global,
     script: Script,
     wanted: &Wanted,
-    form: Form,
+    form: ExplanationForm,
     gate: &G,
     output: &mut W,
 ) -> Result<bool, AllocError>
     requires { IsReadScript (script_view script) }
 {
     let config = script.config.copy()?;
-    if let Form::Json { .. } = form {
+    if let ExplanationForm::Json { .. } = form {
         put_json_beginning(alloc, config.version, output)?;
     }
     let mut teller = Teller {
@@ -155,7 +156,7 @@ fn explain_by<R: Threads + Sync, G: Gate + Sync, W: Sink>(
 struct Teller<'a, W> {
     alloc: Global,
     config: Config,
-    form: Form,
+    form: ExplanationForm,
     /// How many turns were explained.
     count: usize,
     output: &'a mut W,
@@ -165,13 +166,13 @@ impl<W: Sink> Teller<'_, W> {
     /// Writes what stands behind the last turn; answers whether all was taken.
     fn end(self) -> Result<bool, AllocError> {
         match self.form {
-            Form::Text { .. } => Ok(!self.output.failed()),
-            Form::Json { .. } => put_json_end(self.alloc, self.output),
-            Form::Picture if self.count == 0 => {
+            ExplanationForm::Text { .. } => Ok(!self.output.failed()),
+            ExplanationForm::Json { .. } => put_json_end(self.alloc, self.output),
+            ExplanationForm::Picture if self.count == 0 => {
                 let mut picture = picture_of(self.alloc, &self.config, None)?;
                 Ok(put(&mut picture, self.output))
             }
-            Form::Picture => Ok(!self.output.failed()),
+            ExplanationForm::Picture => Ok(!self.output.failed()),
         }
     }
 }
@@ -185,15 +186,21 @@ impl<W: Sink> Listener<Global> for Teller<'_, W> {
         let place = self.count;
         self.count = place.saturating_add(1);
         match self.form {
-            Form::Text { .. } => put_text(
+            ExplanationForm::Text { .. } => put_text(
                 self.alloc,
                 &self.config,
                 turn,
                 self.form.most(),
                 self.output,
             ),
-            Form::Json { .. } => put_json(self.alloc, &self.config, turn, place, self.output),
-            Form::Picture => {
+            ExplanationForm::Json { .. } => put_json(
+                self.alloc,
+                &self.config,
+                turn,
+                place,
+                self.output,
+            ),
+            ExplanationForm::Picture => {
                 let mut picture = picture_of(self.alloc, &self.config, Some(turn))?;
                 Ok(put(&mut picture, self.output))
             }

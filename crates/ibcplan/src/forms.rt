@@ -5,7 +5,7 @@ ghost use Rattle.rb_super_turn.specs.Views.{report_view};
 ghost use Rattle.ibcplan.specs.Forms.{IsJsonOf, report_line};
 
 use crate::reporting::plan_status;
-use ibcplan_cli::{ProgramError, Shown, Turns, WantedTurns, WorkerCount};
+use ibcplan_cli::{ProgramError, ShownName, Turns, WantedTurns, WorkerCount};
 use rb_base::Gate;
 use rb_script_types::Script;
 use rb_super::run_to_end;
@@ -67,7 +67,7 @@ pub fn commands_of_script<
     rt: &R,
     alloc: Global,
     script: Script,
-    file: Shown<'a>,
+    file: ShownName<'a>,
     turns: WantedTurns,
     gate: G,
 ) -> Result<String, ProgramError<'a>>
@@ -93,7 +93,7 @@ pub(crate) fn number_of(turns: WantedTurns, count: usize) -> Option<u64> {
 }
 
 /// What is wrong where the script of a file, of so many turns, doesn't have a turn.
-pub(crate) fn no_such_turn<'a>(turn: u64, file: Shown<'a>, count: usize) -> ProgramError<'a> {
+pub(crate) fn no_such_turn<'a>(turn: u64, file: ShownName<'a>, count: usize) -> ProgramError<'a> {
     ProgramError::NoSuchTurn {
         turn,
         turns: Turns { file, count },

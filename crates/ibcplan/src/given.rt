@@ -5,7 +5,7 @@ ghost use Rattle.rb_text.specs.Scripts.{script_of};
 ghost use Rattle.ibcplan_cli.specs.Failures.{failure_status, told_fault};
 
 use crate::host::Host;
-use ibcplan_cli::{Given, Import, Input, ProgramError, Shown, status};
+use ibcplan_cli::{Given, Import, Input, ProgramError, ShownName, status};
 use ibcplan_folders::{HostFolders, MadeScript, made};
 use rb_import_setup::{is_setup, read_setup};
 use rb_script_read::{read_script, read_script_by};
@@ -18,7 +18,7 @@ use std::thread::Threads;
 #[derive(Drop)]
 pub struct GivenScript<'a> {
     pub script: Script,
-    pub file: Shown<'a>,
+    pub file: ShownName<'a>,
     pub notices: String,
     pub status: u8,
 }

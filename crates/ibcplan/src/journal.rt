@@ -4,7 +4,7 @@ ghost use Rattle.std.specs.Vec.Iter.{into_iter_items};
 ghost use Rattle.ibcplan.specs.Journals.{AddsEntry, StoresNext};
 
 use crate::host::Host;
-use ibcplan_cli::{Input, ProgramError, Shown};
+use ibcplan_cli::{Input, ProgramError, ShownName};
 use rb_follow::{Journal, check_setup};
 use rb_journal::{
     damage_in, entry_text, input_of, is_opening, opening_text, split_part, state_in, state_part,
@@ -136,7 +136,7 @@ impl<R: Files<File = File> + Eprint> LongJournal<R> {
 
     /// Tells why it isn't begun anew.
     fn tell(&self, error: &io::Error) {
-        let shown = Shown {
+        let shown = ShownName {
             name: self.path.as_str(),
         };
         let _ = eprintln!(&self.rt; "{shown}: not begun anew: {error}");
@@ -284,7 +284,7 @@ fn check_digests<'a, R: Host>(rt: &R, path: &'a str, bytes: &[u8]) -> Result<(),
     match damage_in(rt.alloc(), bytes) {
         Ok(None) => Ok(()),
         Ok(Some(place)) => Err(ProgramError::DamagedJournal {
-            file: Shown { name: path },
+            file: ShownName { name: path },
             place,
         }),
         Err(_) => Err(ProgramError::NoMemory),
@@ -421,7 +421,7 @@ fn gone_on<'a, R: Host>(
         if let Err(error) = cut_off(&file, cut as u64) {
             return Err(failed(path, error, UNWRITTEN));
         }
-        let shown = Shown { name: path };
+        let shown = ShownName { name: path };
         let _ = eprintln!(rt;
             "{shown}: the last {cut} bytes are left out: a turn that wasn't answered"
         );
@@ -493,12 +493,12 @@ fn going_on<'a, R: Host>(
 }
 
 fn failed<'a>(path: &'a str, error: io::Error, advice: &'static str) -> ProgramError<'a> {
-    ProgramError::of_journal(Shown { name: path }, error, advice)
+    ProgramError::of_journal(ShownName { name: path }, error, advice)
 }
 
 fn no_journal<'a>(path: &'a str, reason: &'static str) -> ProgramError<'a> {
     ProgramError::NoJournal {
-        file: Shown { name: path },
+        file: ShownName { name: path },
         reason,
     }
 }

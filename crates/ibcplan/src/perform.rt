@@ -6,7 +6,7 @@ ghost use Rattle.rb_text.specs.Verdicts.{IsFaultFor, BeginsVerdict};
 ghost use Rattle.ibcplan_cli.specs.Failures.{failure_status, told_fault, is_unwritten};
 ghost use Rattle.ibcplan.specs.Status.{IsPlanWritten, IsConfirmed, IsDenied};
 
-use crate::explain::{AskedExplanation, Form, explain};
+use crate::explain::{AskedExplanation, ExplanationForm, explain};
 use crate::first_text::{FirstText, first_text, last_text};
 use crate::following::{follow, follow_from};
 use crate::forms::{commands_of_script, json_of_script};
@@ -16,12 +16,12 @@ use crate::journal::{OpenedJournal, open_journal};
 use crate::messages::{MessageLines, messages_of};
 use crate::reporting::{plan_status, refused_events};
 use ibcplan_cli::{
-    Explained, Following, Given, Import, Input, ProgramError, Progress, Request, STANDARD_INPUT,
-    Shown, Wanted, WantedTurns, WorkerCount, setup_for, status,
+    Explained, Following, Given, Import, Input, Invocation, ProgramError, Progress, STANDARD_INPUT,
+    ScriptOutput, ShownName, WantedTurns, WorkerCount, setup_for, status,
 };
 use ibcplan_folders::{ImportedText, WantedText, imported, wanted};
 use rb_base::{Counted, Gate, Sink, write_whole};
-use rb_follow::{Form as AnswerForm, NoJournal, greeting, json_of_fault};
+use rb_follow::{Form, NoJournal, greeting, json_of_fault};
 use rb_import_setup::NamedClient;
 use rb_script_toml::RunError;
 use rb_script_types::{Script, Version};
@@ -35,7 +35,7 @@ use std::thread::Threads;
 
 /// Does a request, and answers the status to end with. Where standard error is watched it says there how
 /// far a long run is, and how many events were refused.
-pub fn perform<R: Host>(rt: &R, request: Request<'_>, is_watched: bool) -> u8 {
+pub fn perform<R: Host>(rt: &R, request: Invocation<'_>, is_watched: bool) -> u8 {
     match outcome_of(rt, request, is_watched) {
         Ok(status) => status,
         Err(failure) => {
@@ -49,7 +49,7 @@ pub fn perform<R: Host>(rt: &R, request: Request<'_>, is_watched: bool) -> u8 {
 /// on standard error.
 fn outcome_of<'a, R: Host>(
     rt: &R,
-    request: Request<'a>,
+    request: Invocation<'a>,
     is_watched: bool,
 ) -> Result<u8, ProgramError<'a>> {
     let is_json = request.is_json();
@@ -150,36 +150,36 @@ impl Done {
 /// Reads the files of a request and does it.
 fn done_of<'a, R: Host, W: Sink>(
     rt: &R,
-    request: Request<'a>,
+    request: Invocation<'a>,
     is_watched: bool,
     output: &mut W,
 ) -> Result<Done, ProgramError<'a>>
     requires { W.is_broken output.old ≡ false }
 {
     match request {
-        Request::Script { given, wanted } => write_about(rt, given, wanted, is_watched, output),
-        Request::Messages {
+        Invocation::Script { given, wanted } => write_about(rt, given, wanted, is_watched, output),
+        Invocation::Messages {
             import,
             output: made,
         } => write_messages(rt, import, made, is_watched, output),
-        Request::Follow { setup, following } => {
+        Invocation::Follow { setup, following } => {
             follow_input(rt, setup, following, is_watched, output)
         }
-        Request::FollowJournal {
+        Invocation::FollowJournal {
             setup,
             journal,
             following,
         } => follow_journal(rt, setup, journal, following, is_watched, output),
-        Request::Import(import) => import_files(rt, import, output),
-        Request::Setup { config, clients } => setup_file(rt, config, clients.as_slice(), output),
-        Request::Want { setup, folder } => want_files(rt, setup, folder, output),
-        Request::Certify {
+        Invocation::Import(import) => import_files(rt, import, output),
+        Invocation::Setup { config, clients } => setup_file(rt, config, clients.as_slice(), output),
+        Invocation::Want { setup, folder } => want_files(rt, setup, folder, output),
+        Invocation::Certify {
             given,
             certificate,
             is_json,
         } => certify_files(rt, given, certificate, is_json, output),
-        Request::CertifyInput { is_json } => certify_input(rt, is_json, output),
-        Request::Version => write_greeting(output),
+        Invocation::CertifyInput { is_json } => certify_input(rt, is_json, output),
+        Invocation::Version => write_greeting(output),
     }
 }
 
@@ -187,7 +187,7 @@ fn done_of<'a, R: Host, W: Sink>(
 fn write_about<'a, R: Host, W: Sink>(
     rt: &R,
     given: Given<'a>,
-    wanted: Wanted<'a>,
+    wanted: ScriptOutput<'a>,
     is_watched: bool,
     output: &mut W,
 ) -> Result<Done, ProgramError<'a>>
@@ -208,8 +208,8 @@ fn write_about<'a, R: Host, W: Sink>(
 fn write_wanted<'a, R: Host, W: Sink>(
     rt: &R,
     script: Script,
-    file: Shown<'a>,
-    wanted: Wanted<'a>,
+    file: ShownName<'a>,
+    wanted: ScriptOutput<'a>,
     progress: Progress<R>,
     output: &mut W,
 ) -> Result<Done, ProgramError<'a>>
@@ -217,7 +217,7 @@ fn write_wanted<'a, R: Host, W: Sink>(
     requires works { W.is_broken output.old ≡ false }
 {
     match wanted {
-        Wanted::Report { workers, is_strict } => plan(
+        ScriptOutput::Report { workers, is_strict } => plan(
             rt,
             rt.alloc(),
             script,
@@ -226,11 +226,13 @@ fn write_wanted<'a, R: Host, W: Sink>(
             progress,
             output,
         ),
-        Wanted::Json { workers, is_strict } => {
+        ScriptOutput::Json { workers, is_strict } => {
             write_json(rt, script, workers, is_strict, progress, output)
         }
-        Wanted::Commands { turns } => write_commands(rt, script, file, turns, progress, output),
-        Wanted::Explanation {
+        ScriptOutput::Commands { turns } => write_commands(
+            rt, script, file, turns, progress, output,
+        ),
+        ScriptOutput::Explanation {
             turns,
             client,
             is_whole,
@@ -243,15 +245,21 @@ fn write_wanted<'a, R: Host, W: Sink>(
             };
             write_explanation(rt, script, file, asked, progress, output)
         }
-        Wanted::Picture { turns, client } => {
+        ScriptOutput::Picture { turns, client } => {
             let asked = AskedExplanation {
                 turns,
                 client,
-                form: Form::Picture,
+                form: ExplanationForm::Picture,
             };
             write_explanation(rt, script, file, asked, progress, output)
         }
-        Wanted::Health { are_metrics } => write_health(rt, script, are_metrics, progress, output),
+        ScriptOutput::Health { are_metrics } => write_health(
+            rt,
+            script,
+            are_metrics,
+            progress,
+            output,
+        ),
     }
 }
 
@@ -276,7 +284,7 @@ fn write_json<'a, R: Host, W: Sink>(
 fn write_commands<'a, R: Host, W: Sink>(
     rt: &R,
     script: Script,
-    file: Shown<'a>,
+    file: ShownName<'a>,
     turns: WantedTurns,
     progress: Progress<R>,
     output: &mut W,
@@ -289,18 +297,18 @@ fn write_commands<'a, R: Host, W: Sink>(
     Ok(Done::quietly(status::DONE))
 }
 
-fn text_form(is_whole: bool, is_json: bool) -> Form {
+fn text_form(is_whole: bool, is_json: bool) -> ExplanationForm {
     if is_json {
-        Form::Json { is_whole }
+        ExplanationForm::Json { is_whole }
     } else {
-        Form::Text { is_whole }
+        ExplanationForm::Text { is_whole }
     }
 }
 
 fn write_explanation<'a, R: Host, W: Sink>(
     rt: &R,
     script: Script,
-    file: Shown<'a>,
+    file: ShownName<'a>,
     asked: AskedExplanation<'a>,
     progress: Progress<R>,
     output: &mut W,
@@ -475,12 +483,12 @@ fn follow_journal<'a, R: Host, W: Sink>(
     Ok(Done::quietly(status::DONE))
 }
 
-fn answer_form(following: Following) -> AnswerForm {
+fn answer_form(following: Following) -> Form {
     let has_labels = following.has_labels;
     if following.is_json {
-        AnswerForm::Json { has_labels }
+        Form::Json { has_labels }
     } else {
-        AnswerForm::Text { has_labels }
+        Form::Text { has_labels }
     }
 }
 

@@ -1,7 +1,7 @@
 //! The command line of `certify`.
 use crate::given::{FOLDER, Given, SCRIPT, given_command, import_of};
 use crate::input::STANDARD_INPUT;
-use crate::request::{JSON, Request, flag};
+use crate::request::{Invocation, JSON, flag};
 use clap::error::ErrorKind;
 use clap::{Arg, ArgMatches, Command, Error};
 use std::alloc::{AllocError, Global};
@@ -39,7 +39,7 @@ fn certificate<'a>(alloc: Global) -> Arg<'a> {
 
 /// The request of `certify`: of two words the second is the certificate, of three the first two are a setup and a folder. None
 /// where no certificate is given beside a file, or standard input is to be both.
-pub(crate) fn certify_of<'a>(given: &ArgMatches<'a>) -> Option<Request<'a>> {
+pub(crate) fn certify_of<'a>(given: &ArgMatches<'a>) -> Option<Invocation<'a>> {
     let file = given.get_str(SCRIPT)?;
     let is_json = given.get_flag(JSON);
     let (script, certificate) = match (given.get_str(FOLDER), given.get_str(CERT)) {
@@ -47,13 +47,13 @@ pub(crate) fn certify_of<'a>(given: &ArgMatches<'a>) -> Option<Request<'a>> {
             (Given::Setup(import_of(given, file, folder)), certificate)
         }
         (Some(certificate), None) => (Given::Script(file), certificate),
-        (None, _) if file == STANDARD_INPUT => return Some(Request::CertifyInput { is_json }),
+        (None, _) if file == STANDARD_INPUT => return Some(Invocation::CertifyInput { is_json }),
         (None, _) => return None,
     };
     if file == STANDARD_INPUT && certificate == STANDARD_INPUT {
         return None;
     }
-    Some(Request::Certify {
+    Some(Invocation::Certify {
         given: script,
         certificate,
         is_json,

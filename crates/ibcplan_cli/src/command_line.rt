@@ -1,6 +1,6 @@
 //! The command line read, and what is told of it where it asks for nothing.
 use crate::error::ProgramError;
-use crate::request::{Request, read_request};
+use crate::request::{Invocation, read_request};
 use crate::shown::shown_text;
 use crate::status;
 use clap::error::ErrorKind;
@@ -11,7 +11,7 @@ use std::alloc::{AllocError, Global};
 pub fn request_of<'a, R: Print + Eprint + AllocGlobal>(
     rt: &R,
     words: &'a [String],
-) -> Result<Request<'a>, u8> {
+) -> Result<Invocation<'a>, u8> {
     match read_request(rt.alloc(), words) {
         Ok(request) => Ok(request),
         Err(message) => Err(show(rt, &with_shown_words(rt.alloc(), words, message))),

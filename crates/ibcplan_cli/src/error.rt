@@ -6,7 +6,7 @@ ghost use Rattle.ibcplan_cli.specs.Failures.{failure_status, IsFailureStatus, to
 use crate::advice::{advice_for, setup_advice_for};
 use crate::input::Input;
 use crate::input_error::{InputError, input_error_of};
-use crate::shown::{Shown, shown_text};
+use crate::shown::{ShownName, shown_text};
 use crate::status;
 use rb_import_setup::NamedClient;
 use rb_script_toml::{Fault, RunError};
@@ -22,7 +22,7 @@ const OTHER_SCRIPT: &str = "it is a script, which has its events: leave the fold
 /// How many turns the script of a file has, told as which is the last.
 #[derive(Clone, Copy, Debug)]
 pub struct Turns<'a> {
-    pub file: Shown<'a>,
+    pub file: ShownName<'a>,
     pub count: usize,
 }
 
@@ -43,7 +43,7 @@ pub enum ProgramError<'a> {
     /// A file can't be read.
     #[error("device\n{file}: {error}\n{advice}")]
     Unreadable {
-        file: Shown<'a>,
+        file: ShownName<'a>,
         error: io::Error,
         advice: &'static str,
     },
@@ -56,20 +56,20 @@ pub enum ProgramError<'a> {
     /// A journal can't be read or written.
     #[error("device\n{file}: {error}\n{advice}")]
     JournalFails {
-        file: Shown<'a>,
+        file: ShownName<'a>,
         error: io::Error,
         advice: &'static str,
     },
     /// A file can't be the journal.
     #[error("error: invalid value '{file}' for '--journal <FILE>': {reason}\n\nFor more information, try '--help'.")]
     NoJournal {
-        file: Shown<'a>,
+        file: ShownName<'a>,
         reason: &'static str,
     },
     /// A part of a journal isn't as it was written.
     #[error("error: invalid value '{file}' for '--journal <FILE>': its part at byte {place} isn't as it was written, so nothing is answered\n\nPut a whole copy of the file there, or begin another journal (docs/OPERATING.md).")]
     DamagedJournal {
-        file: Shown<'a>,
+        file: ShownName<'a>,
         place: usize,
     },
     /// Answers are refused.
@@ -90,13 +90,13 @@ pub enum ProgramError<'a> {
     /// The script doesn't have the client that was asked for.
     #[error("error: invalid value '{client}' for '--client <ID>': {file} has no such client\n\nFor more information, try '--help'.")]
     NoSuchClient {
-        client: Shown<'a>,
-        file: Shown<'a>,
+        client: ShownName<'a>,
+        file: ShownName<'a>,
     },
     /// A setup stands without its folder, or a script with one.
     #[error("error: invalid value '{file}' for '<SCRIPT>': {reason}\n\nFor more information, try '--help'.")]
     WrongFile {
-        file: Shown<'a>,
+        file: ShownName<'a>,
         reason: &'static str,
     },
     /// A configuration makes no setup for a client.
@@ -200,7 +200,11 @@ impl<'a> ProgramError<'a> {
     }
 
     /// That the journal in a file fails, and what to do.
-    pub fn of_journal(file: Shown<'a>, error: io::Error, advice: &'static str) -> ProgramError<'a>
+    pub fn of_journal(
+        file: ShownName<'a>,
+        error: io::Error,
+        advice: &'static str,
+    ) -> ProgramError<'a>
         ensures status { failure_status result ≡ 4 }
         ensures fault { told_fault result ≡ None }
         ensures device { is_unwritten result ≡ false }

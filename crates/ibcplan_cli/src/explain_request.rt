@@ -1,6 +1,6 @@
 //! The command lines of `explain` and `picture`.
 use crate::given::{FOLDER, given_command};
-use crate::request::{JSON, Wanted, flag, last, turn, turns_of};
+use crate::request::{JSON, ScriptOutput, flag, last, turn, turns_of};
 use clap::{Arg, ArgAction, ArgMatches, Command};
 use std::alloc::{AllocError, Global};
 
@@ -60,8 +60,8 @@ fn client<'a>(alloc: Global) -> Arg<'a> {
 }
 
 /// What `explain` is to write.
-pub(crate) fn explanation_of<'a>(given: &ArgMatches<'a>) -> Wanted<'a> {
-    Wanted::Explanation {
+pub(crate) fn explanation_of<'a>(given: &ArgMatches<'a>) -> ScriptOutput<'a> {
+    ScriptOutput::Explanation {
         turns: turns_of(given),
         client: given.get_str(CLIENT),
         is_whole: given.get_flag(ALL),
@@ -70,8 +70,8 @@ pub(crate) fn explanation_of<'a>(given: &ArgMatches<'a>) -> Wanted<'a> {
 }
 
 /// What `picture` is to write.
-pub(crate) fn picture_of<'a>(given: &ArgMatches<'a>) -> Wanted<'a> {
-    Wanted::Picture {
+pub(crate) fn picture_of<'a>(given: &ArgMatches<'a>) -> ScriptOutput<'a> {
+    ScriptOutput::Picture {
         turns: turns_of(given),
         client: given.get_str(CLIENT),
     }

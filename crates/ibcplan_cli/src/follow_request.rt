@@ -1,5 +1,5 @@
 //! The command line of `follow`.
-use crate::request::{JSON, Request, flag};
+use crate::request::{Invocation, JSON, flag};
 use crate::worker_count::WorkerCount;
 use clap::{Arg, ArgAction, ArgMatches, Command, value_parser};
 use std::alloc::{AllocError, Global};
@@ -98,7 +98,7 @@ fn journal<'a>(alloc: Global) -> Arg<'a> {
 }
 
 /// The request of `follow`, or none where a word is missing.
-pub(crate) fn follow_of<'a>(given: &ArgMatches<'a>) -> Option<Request<'a>> {
+pub(crate) fn follow_of<'a>(given: &ArgMatches<'a>) -> Option<Invocation<'a>> {
     let workers = match given.get_one(WORKERS) {
         Some(count) => WorkerCount::new(count)?,
         None => WorkerCount::none(),
@@ -111,13 +111,13 @@ pub(crate) fn follow_of<'a>(given: &ArgMatches<'a>) -> Option<Request<'a>> {
     };
     let setup = given.get_str(SETUP);
     if let Some(journal) = given.get_str(JOURNAL) {
-        return Some(Request::FollowJournal {
+        return Some(Invocation::FollowJournal {
             setup,
             journal,
             following,
         });
     }
-    Some(Request::Follow {
+    Some(Invocation::Follow {
         setup: setup?,
         following,
     })

@@ -1,6 +1,6 @@
 //! The command line of `health`.
 use crate::given::{FOLDER, given_command};
-use crate::request::{Wanted, flag};
+use crate::request::{ScriptOutput, flag};
 use clap::{ArgMatches, Command};
 use std::alloc::{AllocError, Global};
 
@@ -25,8 +25,8 @@ pub(crate) fn health_command<'a>(alloc: Global) -> Result<Command<'a>, AllocErro
 }
 
 /// What `health` is to write.
-pub(crate) fn health_of<'a>(given: &ArgMatches<'_>) -> Wanted<'a> {
-    Wanted::Health {
+pub(crate) fn health_of<'a>(given: &ArgMatches<'_>) -> ScriptOutput<'a> {
+    ScriptOutput::Health {
         are_metrics: given.get_flag(PROMETHEUS),
     }
 }

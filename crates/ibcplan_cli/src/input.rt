@@ -2,7 +2,7 @@
 ghost use Rattle.std.specs.Prelude.{◌≡◌, ℕ, List};
 
 use crate::error::ProgramError;
-use crate::shown::Shown;
+use crate::shown::ShownName;
 use rb_script_toml::MAX_BYTES;
 use std::alloc::Global;
 use std::fs::{File, Files};
@@ -76,7 +76,7 @@ impl<'a> Input<'a> {
     }
 
     /// What to call the file.
-    pub fn name(&self) -> Shown<'a> {
+    pub fn name(&self) -> ShownName<'a> {
         name_of(self.path)
     }
 
@@ -88,13 +88,13 @@ impl<'a> Input<'a> {
     }
 }
 
-fn name_of<'a>(path: &'a str) -> Shown<'a> {
+fn name_of<'a>(path: &'a str) -> ShownName<'a> {
     let name = match path {
         STANDARD_INPUT => "standard input",
         "" => "'' (an empty name)",
         path => path,
     };
-    Shown { name }
+    ShownName { name }
 }
 
 /// What to do where the file can't be read.

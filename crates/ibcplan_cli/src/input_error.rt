@@ -4,7 +4,7 @@ ghost use Rattle.rb_script_toml.specs.Faults.{fault_view};
 
 use crate::advice::type_words;
 use crate::input::Input;
-use crate::shown::Shown;
+use crate::shown::ShownName;
 use rb_script_toml::{Fault, FaultName};
 use std::str;
 use thiserror::Error;
@@ -15,38 +15,38 @@ pub enum InputError<'a> {
     /// It isn't UTF-8.
     #[error("{file}: line {line}: byte {place} (from 0) is no UTF-8\nWrite the file in UTF-8.")]
     Encoding {
-        file: Shown<'a>,
+        file: ShownName<'a>,
         line: usize,
         place: usize,
     },
     /// It is UTF-8, and not of TOML's grammar.
     #[error("{file}: {reason}Mend the text there; a value that is a text stands in quotes, a key stands once, and a table of which there may be several has two brackets, as [[chain]] or [[turn.event]].")]
     Grammar {
-        file: Shown<'a>,
+        file: ShownName<'a>,
         reason: String,
     },
     /// Nothing is there.
     #[error("{file}: there is nothing in it; did the command fail that was to write it?")]
     Empty {
-        file: Shown<'a>,
+        file: ShownName<'a>,
     },
     /// A key isn't there.
     #[error("{file}: this key is missing; {advice} (docs/FORMATS.md; places are counted from 0)")]
     Missing {
-        file: Shown<'a>,
+        file: ShownName<'a>,
         advice: &'static str,
     },
     /// A value has another type than the one that belongs there.
     #[error("{file}: {advice}; what stands there is {found} (docs/FORMATS.md; places are counted from 0)")]
     Type {
-        file: Shown<'a>,
+        file: ShownName<'a>,
         advice: &'static str,
         found: &'static str,
     },
     /// It is TOML, and holds no script or certificate.
     #[error("{file}: {advice} (docs/FORMATS.md; places are counted from 0)")]
     Content {
-        file: Shown<'a>,
+        file: ShownName<'a>,
         advice: &'static str,
     },
 }

@@ -1,6 +1,6 @@
 //! The command line of `messages`.
 use crate::given::{FOLDER, SCRIPT, all_or_nothing, import_of, verified};
-use crate::request::{Request, path};
+use crate::request::{Invocation, path};
 use clap::{ArgMatches, Command};
 use std::alloc::{AllocError, Global};
 
@@ -44,9 +44,9 @@ pub(crate) fn messages_command<'a>(alloc: Global) -> Result<Command<'a>, AllocEr
 }
 
 /// The request of `messages`, or none where a word is missing.
-pub(crate) fn messages_of<'a>(given: &ArgMatches<'a>) -> Option<Request<'a>> {
+pub(crate) fn messages_of<'a>(given: &ArgMatches<'a>) -> Option<Invocation<'a>> {
     let (file, folder) = (given.get_str(SCRIPT)?, given.get_str(FOLDER)?);
-    Some(Request::Messages {
+    Some(Invocation::Messages {
         import: import_of(given, file, folder),
         output: given.get_str(DIR)?,
     })

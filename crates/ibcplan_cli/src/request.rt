@@ -19,11 +19,11 @@ use std::alloc::{AllocError, Global};
 
 /// What the program is asked to do, with the paths of its files.
 #[derive(Drop)]
-pub enum Request<'a> {
+pub enum Invocation<'a> {
     /// Write something about a script.
     Script {
         given: Given<'a>,
-        wanted: Wanted<'a>,
+        wanted: ScriptOutput<'a>,
     },
     /// Write the messages of the last turn of the script in a file, or of that which the setup in it makes, of the answers in
     /// a folder, into a new folder.
@@ -68,27 +68,27 @@ pub enum Request<'a> {
     Version,
 }
 
-impl Request<'_> {
+impl Invocation<'_> {
     /// Whether what is written is JSON; faults of texts are then, too.
     pub fn is_json(&self) -> bool {
         match self {
-            Request::Script { wanted, .. } => wanted.is_json(),
-            Request::Follow { following, .. } | Request::FollowJournal { following, .. } => {
+            Invocation::Script { wanted, .. } => wanted.is_json(),
+            Invocation::Follow { following, .. } | Invocation::FollowJournal { following, .. } => {
                 following.is_json
             }
-            Request::Certify { is_json, .. } | Request::CertifyInput { is_json } => *is_json,
-            Request::Version => true,
-            Request::Messages { .. }
-            | Request::Import(_)
-            | Request::Setup { .. }
-            | Request::Want { .. } => false,
+            Invocation::Certify { is_json, .. } | Invocation::CertifyInput { is_json } => *is_json,
+            Invocation::Version => true,
+            Invocation::Messages { .. }
+            | Invocation::Import(_)
+            | Invocation::Setup { .. }
+            | Invocation::Want { .. } => false,
         }
     }
 }
 
 /// What is to be written about a script.
 #[derive(Clone, Copy)]
-pub enum Wanted<'a> {
+pub enum ScriptOutput<'a> {
     /// Its report, by so many workers.
     Report {
         workers: WorkerCount,
@@ -121,19 +121,20 @@ pub enum Wanted<'a> {
     },
 }
 
-impl Wanted<'_> {
+impl ScriptOutput<'_> {
     /// How many threads may read the script.
     pub fn threads(&self) -> usize {
         match self {
-            Wanted::Report { workers, .. } | Wanted::Json { workers, .. } => workers.count(),
+            ScriptOutput::Report { workers, .. } | ScriptOutput::Json { workers, .. } =>
+                workers.count(),
             _ => 0,
         }
     }
 
     fn is_json(&self) -> bool {
         match self {
-            Wanted::Json { .. } => true,
-            Wanted::Explanation { is_json, .. } => *is_json,
+            ScriptOutput::Json { .. } => true,
+            ScriptOutput::Explanation { is_json, .. } => *is_json,
             _ => false,
         }
     }
@@ -402,7 +403,7 @@ fn command_line<'a>(alloc: Global) -> Result<Command<'a>, AllocError> {
 }
 
 /// What `plan` or `run` is to write, or none where a word is missing.
-fn plan_of<'a>(name: &str, given: &ArgMatches<'_>) -> Option<Wanted<'a>> {
+fn plan_of<'a>(name: &str, given: &ArgMatches<'_>) -> Option<ScriptOutput<'a>> {
     let is_strict = given.get_flag(STRICT);
     let workers = if name == RUN {
         WorkerCount::new(given.get_one(WORKERS)?)?
@@ -410,9 +411,9 @@ fn plan_of<'a>(name: &str, given: &ArgMatches<'_>) -> Option<Wanted<'a>> {
         WorkerCount::none()
     };
     if given.get_flag(JSON) {
-        return Some(Wanted::Json { workers, is_strict });
+        return Some(ScriptOutput::Json { workers, is_strict });
     }
-    Some(Wanted::Report { workers, is_strict })
+    Some(ScriptOutput::Report { workers, is_strict })
 }
 
 /// The turns whose commands are wanted.
@@ -427,20 +428,20 @@ pub(crate) fn turns_of(given: &ArgMatches<'_>) -> WantedTurns {
 }
 
 /// The request of `import` or `want`, or none where a word is missing.
-fn folder_task_of<'a>(name: &str, given: &ArgMatches<'a>) -> Option<Request<'a>> {
+fn folder_task_of<'a>(name: &str, given: &ArgMatches<'a>) -> Option<Invocation<'a>> {
     let setup = given.get_str(SETUP)?;
     let folder = given.get_str(FOLDER)?;
     if name == WANT {
-        return Some(Request::Want { setup, folder });
+        return Some(Invocation::Want { setup, folder });
     }
-    Some(Request::Import(import_of(given, setup, folder)))
+    Some(Invocation::Import(import_of(given, setup, folder)))
 }
 
 /// What a command is to write about a script, or none where a word is missing.
-fn wanted_of<'a>(name: &str, given: &ArgMatches<'a>) -> Option<Wanted<'a>> {
+fn wanted_of<'a>(name: &str, given: &ArgMatches<'a>) -> Option<ScriptOutput<'a>> {
     if name == COMMANDS {
         let turns = turns_of(given);
-        Some(Wanted::Commands { turns })
+        Some(ScriptOutput::Commands { turns })
     } else if name == EXPLAIN {
         Some(explanation_of(given))
     } else if name == PICTURE {
@@ -453,14 +454,14 @@ fn wanted_of<'a>(name: &str, given: &ArgMatches<'a>) -> Option<Wanted<'a>> {
 }
 
 /// The request of a command that takes a script, or none where a word is missing.
-fn script_task_of<'a>(name: &str, given: &ArgMatches<'a>) -> Option<Request<'a>> {
+fn script_task_of<'a>(name: &str, given: &ArgMatches<'a>) -> Option<Invocation<'a>> {
     let wanted = wanted_of(name, given)?;
     let given = given_of(given)?;
-    Some(Request::Script { given, wanted })
+    Some(Invocation::Script { given, wanted })
 }
 
 /// The request of a command by its name, or none where a word is missing.
-fn named_task_of<'a>(name: &str, given: &ArgMatches<'a>) -> Option<Request<'a>> {
+fn named_task_of<'a>(name: &str, given: &ArgMatches<'a>) -> Option<Invocation<'a>> {
     if name == IMPORT || name == WANT {
         folder_task_of(name, given)
     } else if name == FOLLOW {
@@ -475,13 +476,13 @@ fn named_task_of<'a>(name: &str, given: &ArgMatches<'a>) -> Option<Request<'a>> 
 }
 
 /// The request of words that were parsed, or none where one is missing.
-fn task_of<'a>(matches: &ArgMatches<'a>) -> Option<Request<'a>> {
+fn task_of<'a>(matches: &ArgMatches<'a>) -> Option<Invocation<'a>> {
     let (name, given) = matches.subcommand()?;
     named_task_of(name, given)
 }
 
 /// The request of `setup`, or none where another is asked for.
-fn setup_of<'a>(alloc: Global, matches: &ArgMatches<'a>) -> Result<Option<Request<'a>>, Error> {
+fn setup_of<'a>(alloc: Global, matches: &ArgMatches<'a>) -> Result<Option<Invocation<'a>>, Error> {
     let Some(given) = matches.subcommand_matches(SETUP_COMMAND) else {
         return Ok(None);
     };
@@ -489,7 +490,7 @@ fn setup_of<'a>(alloc: Global, matches: &ArgMatches<'a>) -> Result<Option<Reques
         return Ok(None);
     };
     let clients = clients_of(alloc, given)?;
-    Ok(Some(Request::Setup { config, clients }))
+    Ok(Some(Invocation::Setup { config, clients }))
 }
 
 /// The request of words that were parsed by the command.
@@ -497,7 +498,7 @@ fn request_of_words<'a>(
     alloc: Global,
     command: &mut Command<'a>,
     matches: &ArgMatches<'a>,
-) -> Result<Request<'a>, Error> {
+) -> Result<Invocation<'a>, Error> {
     if let Some(request) = setup_of(alloc, matches)? {
         return Ok(request);
     }
@@ -530,9 +531,9 @@ fn asks_for_version(words: &[String]) -> bool {
 
 /// Reads the command line. An error is the text to show: what is wrong, or the help that was asked
 /// for.
-pub fn read_request<'a>(alloc: Global, words: &'a [String]) -> Result<Request<'a>, Error> {
+pub fn read_request<'a>(alloc: Global, words: &'a [String]) -> Result<Invocation<'a>, Error> {
     if asks_for_version(words) {
-        return Ok(Request::Version);
+        return Ok(Invocation::Version);
     }
     let mut command = command_line(alloc)?.bin_name("ibcplan")?;
     let matches = command.try_get_matches_from_mut(words)?;

@@ -6,11 +6,11 @@ use std::fmt;
 /// A name of which characters that would do something to a terminal are written `\u{..}` with their number in
 /// hexadecimal digits, so that it is one line.
 #[derive(Clone, Copy, Debug)]
-pub struct Shown<'a> {
+pub struct ShownName<'a> {
     pub name: &'a str,
 }
 
-impl fmt::Display for Shown<'_> {
+impl fmt::Display for ShownName<'_> {
     fn fmt<W: fmt::Write>(&self, f: &mut fmt::Formatter<W>) -> fmt::Result {
         for character in self.name.chars() {
             if is_active(character) {
@@ -26,6 +26,6 @@ impl fmt::Display for Shown<'_> {
 
 /// A name as messages show it, as a text of its own.
 pub fn shown_text(alloc: Global, name: &str) -> Result<String, AllocError> {
-    let name = Shown { name };
+    let name = ShownName { name };
     format!(in alloc; "{name}")
 }

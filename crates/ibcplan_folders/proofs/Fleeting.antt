@@ -3,7 +3,7 @@ use Rattle.std.proofs.Common.{◌≡◌, ℕ, List, true, ap, ◌∙◌}
 use Rattle.std.specs.Prelude.{Option, Result, Ok, Err, IfOk, is_some}
 use Rattle.rb_import_check.specs.declared.signed.Signatures.{Signatures}
 use Rattle.rb_import_setup.specs.Setups.{setup_of, setup_view}
-use Rattle.rb_import_setup.specs.declared.setup.Setup.{Setup}
+use Rattle.rb_import_setup.specs.declared.setup.ImportSetup.{ImportSetup}
 use Rattle.ibcplan_folders.specs.Fleets.{AreTold, ChainsHave, ClientsHave, IsFleetOf, IsMadeBy, IsRestOf, PathsHave}
 use Rattle.ibcplan_folders.specs.Folders.{AnswerFile}
 use Rattle.ibcplan_folders.specs.Leavings.{IsLeftOf, IsMadeOfLeft, StaysWhole}
@@ -14,7 +14,7 @@ use Rattle.ibcplan_folders.specs.declared.left_out.LeftOut.{LeftOut}
 use Rattle.ibcplan_folders.proofs.Leaving.{chains_stay, clients_stay, paths_stay, rest_after, rest_of_left}
 use Rattle.ibcplan_folders.proofs.Wholes.{none_before, nothing}
 
-pub fleet_read : {E : Type 0} (known : Option (List AnswerFile)) (bytes : List ℕ) (old new : LeftOut) (setup : Setup) (r : Result Fleet E) → setup_of bytes ≡ Ok (setup_view setup)
+pub fleet_read : {E : Type 0} (known : Option (List AnswerFile)) (bytes : List ℕ) (old new : LeftOut) (setup : ImportSetup) (r : Result Fleet E) → setup_of bytes ≡ Ok (setup_view setup)
     → IfOk r (λ f. IsRestOf setup f.setup) → IfOk r (λ f. StaysWhole old new setup f.setup) → IfOk r (ChainsHave (AreTold known)) → IfOk r (ClientsHave (AreTold known))
     → IfOk r (PathsHave (AreTold known)) → IfOk r (IsFleetOf known bytes (import_status new))
 fleet_read known bytes old new setup (Err e) read rest whole chains clients paths = tt

@@ -12,7 +12,7 @@ use Rattle.rb_import_setup.specs.Paths.{Path, path_view}
 use Rattle.rb_import_setup.specs.Rests.{client_stays, moved_path, path_stays, tracks_chain}
 use Rattle.rb_import_setup.specs.declared.setup.ClientSetup.{ClientSetup}
 use Rattle.rb_import_setup.specs.declared.setup.PathSetup.{PathSetup}
-use Rattle.rb_import_setup.specs.declared.setup.Setup.{Setup}
+use Rattle.rb_import_setup.specs.declared.setup.ImportSetup.{ImportSetup}
 use Rattle.rb_messages.proofs.Zipped.{placed_more, zipped_all, zipped_more}
 use Rattle.ibcplan_folders.specs.Fleets.{ChainHas, ChainsHave, ClientHas, ClientsHave, IsRestOf, IsSetupLeft, IsSince, PathsHave, is_tracked, path_ids, staying}
 use Rattle.ibcplan_folders.specs.Leavings.{HasMore, IsAmong, IsFleetWithout, IsLeft, IsLeftOf, OrFailed, StaysTracked, failed}
@@ -241,14 +241,14 @@ setups_left : (ids : List (List ℕ)) (f g : Fleet) → IsLeftOf ids f g → IsS
 setups_left [] f g left = ap (λ (h : Fleet). h.setup) left
 setups_left (x ∷ ids) f g (next, without, left) = (next.setup, without.setup, setups_left ids next g left)
 
-setup_after : (ids more : List (List ℕ)) (r s t : Setup) → IsSetupLeft ids r s → IsSetupLeft more s t → IsSetupLeft (ids ++ more) r t
-setup_after [] more r s t left after = subst (λ (q : Setup). IsSetupLeft more q t) (sym left) after
+setup_after : (ids more : List (List ℕ)) (r s t : ImportSetup) → IsSetupLeft ids r s → IsSetupLeft more s t → IsSetupLeft (ids ++ more) r t
+setup_after [] more r s t left after = subst (λ (q : ImportSetup). IsSetupLeft more q t) (sym left) after
 setup_after (x ∷ ids) more r s t (next, without, left) after = (next, without, setup_after ids more next s t left after)
 
 pub rest_of_left : (f g : Fleet) → IsLeft f g → IsRestOf f.setup g.setup
 rest_of_left f g (ids, left) = (ids, setups_left ids f g left)
 
-pub rest_after : (r s t : Setup) → IsRestOf r s → IsRestOf s t → IsRestOf r t
+pub rest_after : (r s t : ImportSetup) → IsRestOf r s → IsRestOf s t → IsRestOf r t
 rest_after r s t (ids, left) (more, after) = (ids ++ more, setup_after ids more r s t left after)
 
 -- ---- one more that is refused

@@ -4,9 +4,9 @@ use Rattle.std.specs.Prelude.{Result, String, IfOk, is_some, string_bytes}
 use Rattle.std.specs.Global.{Global}
 use Rattle.rb_import.specs.Openings.{Opens, hold_verdicts}
 use Rattle.rb_import_check.specs.declared.signed.Signatures.{Signatures}
-use Rattle.rb_import_setup.specs.declared.setup.Setup.{Setup}
+use Rattle.rb_import_setup.specs.declared.setup.ImportSetup.{ImportSetup}
 use Rattle.rb_import_merge.specs.Seen.{HoldsOfSeen}
-use Rattle.rb_import_merge.specs.declared.seen.Seen.{Seen}
+use Rattle.rb_import_merge.specs.declared.seen.SeenSetup.{SeenSetup}
 use Rattle.ibcplan_folders.specs.declared.importing.ImportedText.{ImportedText}
 use Rattle.ibcplan_folders.specs.declared.left_out.Fleet.{Fleet}
 use Rattle.ibcplan_folders.specs.declared.left_out.LeftOut.{LeftOut}
@@ -29,7 +29,7 @@ none_before l status some zero = go (is_some l.first) some
     go true some = let seven = some refl in absurd (omega (arith, seven, zero))
     go false some = refl
 
-pub whole_after : (a b c : LeftOut) (r s t : Setup) → StaysWhole a b r s → StaysWhole b c s t → StaysWhole a c r t
+pub whole_after : (a b c : LeftOut) (r s t : ImportSetup) → StaysWhole a b r s → StaysWhole b c s t → StaysWhole a c r t
 whole_after a b c r s t first second none =
     let before = second none in
     let begun = first before.0 in
@@ -56,7 +56,7 @@ of_rest fleet left l (Err e) status Holds whole is told = tt
 of_rest fleet left l (Ok t) status Holds whole is told = (left, (λ zero. whole (nothing (is_some l.first) (sym told ∙ zero))), is)
 
 -- of a script and its notices the script
-pub of_seen : {N : Seen → Type 0} (fleet : Fleet) (called s : Signatures) (Holds : Seen → Type 0) → called ≡ s
+pub of_seen : {N : SeenSetup → Type 0} (fleet : Fleet) (called s : Signatures) (Holds : SeenSetup → Type 0) → called ≡ s
     → HoldsOfSeen fleet.setup called fleet.answers (λ seen. N seen × Holds seen) → HoldsOfSeen fleet.setup s fleet.answers Holds
 of_seen fleet called s Holds is (seen, of, holds) = subst (λ x. HoldsOfSeen fleet.setup x fleet.answers Holds) is (seen, of, holds.1)
 

@@ -12,7 +12,7 @@ use Rattle.rb_import_setup.specs.Setups.{setup_of, setup_view}
 use Rattle.rb_import_setup.specs.Turns.{turn_view}
 use Rattle.rb_import_setup.specs.declared.setup.ClientSetup.{ClientSetup}
 use Rattle.rb_import_setup.specs.declared.setup.PathSetup.{PathSetup}
-use Rattle.rb_import_setup.specs.declared.setup.Setup.{Setup}
+use Rattle.rb_import_setup.specs.declared.setup.ImportSetup.{ImportSetup}
 use Rattle.rb_import_check.specs.declared.signed.Signatures.{Signatures}
 use Rattle.rb_script_types.specs.declared.script.Script.{Script}
 use Rattle.ibcplan_folders.specs.Files.{IsMadeOf}
@@ -25,11 +25,11 @@ abbrev pub is_tracked : List ClientSetup → ℕ → Bool
 is_tracked clients place = list_any (λ c. c.tracks == place) clients
 
 -- of each client of a setup whether it stays where the answers of an identifier are refused
-abbrev pub staying : Setup → List ℕ → List Bool
+abbrev pub staying : ImportSetup → List ℕ → List Bool
 staying s id = map (rests.client_stays s.chains.items id) s.clients.items
 
 -- what is left of a setup there
-pub record IsWithout (id : List ℕ) (s rest : Setup) : Type 0 where
+pub record IsWithout (id : List ℕ) (s rest : ImportSetup) : Type 0 where
   pub chains : rest.chains.items ≡ s.chains.items
   pub senders : map (option_map sender_view) rest.senders.items ≡ map (option_map sender_view) s.senders.items
   pub clients : rest.clients.items ≡ filter (rests.client_stays s.chains.items id) s.clients.items
@@ -37,11 +37,11 @@ pub record IsWithout (id : List ℕ) (s rest : Setup) : Type 0 where
   pub turns : map turn_view rest.turns.items ≡ map (left_turn (staying s id)) s.turns.items
 
 -- and where those of several are, one after the other
-abbrev pub IsSetupLeft : List (List ℕ) → Setup → Setup → Type 0
+abbrev pub IsSetupLeft : List (List ℕ) → ImportSetup → ImportSetup → Type 0
 IsSetupLeft [] s rest = s ≡ rest
-IsSetupLeft (id ∷ ids) s rest = (next : Setup) × IsWithout id s next × IsSetupLeft ids next rest
+IsSetupLeft (id ∷ ids) s rest = (next : ImportSetup) × IsWithout id s next × IsSetupLeft ids next rest
 
-abbrev pub IsRestOf : Setup → Setup → Type 0
+abbrev pub IsRestOf : ImportSetup → ImportSetup → Type 0
 IsRestOf s rest = (ids : List (List ℕ)) × IsSetupLeft ids s rest
 
 -- ---- which answers a fleet has, by what is said of those of an identifier
@@ -77,7 +77,7 @@ AreTold known since id saved = OfKnown known (λ files. AreAnswersIn LeftOut sin
 
 -- the fleet is what is left of the setup of a text, with what the files tell of its chains, clients and paths; where the status is 0 nothing is left out
 pub record IsFleetOf (known : Option (List AnswerFile)) (bytes : List ℕ) (status : ℕ) (f : Fleet) : Type 0 where
-  pub setup : Setup
+  pub setup : ImportSetup
   pub read : setup_of bytes ≡ Ok (setup_view setup)
   pub rest : IsRestOf setup f.setup
   pub whole : status ≡ 0 → f.setup ≡ setup

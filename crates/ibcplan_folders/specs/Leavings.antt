@@ -4,7 +4,7 @@ use Rattle.std.specs.Global.{Global}
 use Rattle.std.specs.List.{AllZip, enumerate_from, items_where_true}
 use Rattle.rb_import_check.specs.declared.saved.Saved.{Saved}
 use Rattle.rb_import_setup.specs.declared.setup.ClientSetup.{ClientSetup}
-use Rattle.rb_import_setup.specs.declared.setup.Setup.{Setup}
+use Rattle.rb_import_setup.specs.declared.setup.ImportSetup.{ImportSetup}
 use Rattle.rb_import_check.specs.declared.signed.Signatures.{Signatures}
 use Rattle.ibcplan_folders.specs.Files.{HoldsOfRest, IsMadeOf}
 use Rattle.ibcplan_folders.specs.Fleets.{IsWithout, is_tracked}
@@ -34,7 +34,7 @@ abbrev pub IsLeft : Fleet → Fleet → Type 0
 IsLeft f rest = (ids : List (List ℕ)) × IsLeftOf ids f rest
 
 -- where nothing is left out after this, nothing was before, and the setup is the whole one
-abbrev pub StaysWhole : LeftOut → LeftOut → Setup → Setup → Type 0
+abbrev pub StaysWhole : LeftOut → LeftOut → ImportSetup → ImportSetup → Type 0
 StaysWhole old new setup rest = is_some new.first ≡ false → (is_some old.first ≡ false) × (rest ≡ setup)
 
 abbrev pub failed : List Failure → List (List ℕ)

@@ -27,7 +27,7 @@ use rb_import_check::{CheckError, Saved, SavedAnswers, SavedError, Signatures, r
 use rb_import_json::{FieldError, FieldErrorName};
 use rb_import_merge::ImportErrors;
 use rb_import_notices::Notices;
-use rb_import_setup::{ClientSetup, PathSetup, Setup, read_setup};
+use rb_import_setup::{ClientSetup, ImportSetup, PathSetup, read_setup};
 use rb_script_types::Script;
 use std::alloc::{AllocError, Global};
 use std::io;
@@ -251,7 +251,7 @@ fn refused<'a>(text: Result<String, AllocError>) -> ProgramError<'a> {
 }
 
 /// A setup without answers.
-fn without_answers(alloc: Global, setup: Setup) -> Fleet
+fn without_answers(alloc: Global, setup: ImportSetup) -> Fleet
     ensures { result.setup ≡ setup }
 {
     let answers = SavedAnswers {
@@ -266,7 +266,7 @@ fn without_answers(alloc: Global, setup: Setup) -> Fleet
 /// identifier.
 fn read_fleet<'a, F: AnswerFolders>(
     files: &F,
-    setup: Setup,
+    setup: ImportSetup,
     import: Import<'_>,
     left_out: &mut LeftOut<'a>,
 ) -> Result<Fleet, ProgramError<'a>>
@@ -376,7 +376,7 @@ fn without_all<'a>(
 fn chain_answers<'a, F: AnswerFolders>(
     files: &F,
     chains: &[ChainId],
-    setup: &Setup,
+    setup: &ImportSetup,
     import: Import<'_>,
     failures: &mut Vec<Failure<'a>>,
 ) -> Result<Vec<Vec<Saved>>, ProgramError<'a>>

@@ -7,13 +7,13 @@ ghost use Rattle.ibcplan_folders.specs.Leavings.{IsFleetWithout, IsLeft, StaysTr
 
 use ibcplan_cli::{ProgramError, status};
 use rb_import_check::{Saved, SavedAnswers};
-use rb_import_setup::{Rest, Setup, rest_without};
+use rb_import_setup::{ImportSetup, Rest, rest_without};
 use std::alloc::{AllocError, Global};
 
 /// A setup, and the answers of its chains, its clients and its paths, each at its place.
 #[derive(Drop)]
 pub struct Fleet {
-    pub setup: Setup,
+    pub setup: ImportSetup,
     pub answers: SavedAnswers,
 }
 
@@ -172,7 +172,7 @@ fn rest_of(
 /// Adds a line for each client and each path of a setup that isn't in the rest, with the reason.
 fn tell(
     alloc: Global,
-    setup: &Setup,
+    setup: &ImportSetup,
     rest: &Rest,
     error: &ProgramError<'_>,
     lines: &mut String,
@@ -205,7 +205,7 @@ fn add_line(
 fn tracked(
     alloc: Global,
     answers: Vec<Vec<Saved>>,
-    setup: &Setup,
+    setup: &ImportSetup,
 ) -> Result<Vec<Vec<Saved>>, AllocError>
     ensures { IfOk result (λ left. AllZip (StaysTracked setup.now.clients.items) (enumerate_from 0 answers.items) left.items) }
 {
@@ -227,7 +227,7 @@ fn kept(alloc: Global, saved: Vec<Saved>, stays: bool) -> Vec<Saved>
 }
 
 /// Whether a client tracks the chain at a place.
-pub fn is_tracked(setup: &Setup, chain: usize) -> bool
+pub fn is_tracked(setup: &ImportSetup, chain: usize) -> bool
     ensures { result ≡ list_any (λ c. c.tracks == chain) setup.now.clients.items }
 {
     setup.clients.iter().any(|client| client.tracks == chain)

@@ -53,7 +53,7 @@ struct Source<'s> {
 
 /// What is known of the packet of a message, and the app hash that its proof is judged by.
 #[derive(Drop)]
-struct Known {
+struct KnownPacket {
     ends: Ends,
     facts: PacketFacts,
     app_hash: [u8; 32],
@@ -352,7 +352,7 @@ fn due_of<'k>(
     source: &Source<'_>,
     path: &PathConfig,
     message: &Message,
-    known: &'k Known,
+    known: &'k KnownPacket,
 ) -> DueMessage<'k>
     requires ends { ends_in path.now.channel ≡ Some known.now.ends }
     requires facts { AreFactsIn message.now.packet.kind known.now.ends message.now.packet.sequence (map answer_view (answers_at source.now.answers.now message.now.path)) (facts_view known.now.facts) }
@@ -410,7 +410,7 @@ fn known_of(
     source: &Source<'_>,
     path: &PathConfig,
     message: &Message,
-) -> Result<Known, PacketError>
+) -> Result<KnownPacket, PacketError>
     ensures ends { IfOk result (λ known. ends_in path.now.channel ≡ Some known.ends) }
     ensures facts { IfOk result (λ known. AreFactsIn message.now.packet.kind known.ends message.now.packet.sequence (map answer_view (answers_at source.now.answers.now message.now.path)) (facts_view known.facts)) }
     ensures app_hash { IfOk result (λ known. IsSomeAnd source.now.batch.now.proof_record (λ r. known.app_hash ≡ r.root)) }
@@ -422,7 +422,7 @@ fn known_of(
     let answers = answers_at(source.answers, message.path());
     let facts = facts_of(alloc, answers, &ends, packet.kind, packet.sequence.get())?;
     match &source.batch.proof_record {
-        Some(record) => Ok(Known {
+        Some(record) => Ok(KnownPacket {
             ends,
             facts,
             app_hash: *record.root(),

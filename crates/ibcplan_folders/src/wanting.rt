@@ -3,9 +3,9 @@ use crate::file_system::FileSystem;
 use crate::importing::{add, path_in, tracked_revision};
 use crate::left_out::is_tracked;
 use ibcplan_cli::{Input, ProgramError, bytes_of};
-use rb_import_setup::{Setup, read_setup};
+use rb_import_setup::{ImportSetup, read_setup};
 use rb_want::wanted_of;
-use rb_want_requests::{Content, Folder, Folders, Wanted, content_of};
+use rb_want_requests::{Content, Folder, Folders, NextRequests, content_of};
 use std::alloc::{AllocError, Global};
 use std::fs::File;
 use std::{fs, io};
@@ -35,7 +35,11 @@ pub fn wanted<'a, R: FileSystem>(
     }
 }
 
-fn texts_of(alloc: Global, setup: &Setup, folders: &Folders) -> Result<WantedText, AllocError> {
+fn texts_of(
+    alloc: Global,
+    setup: &ImportSetup,
+    folders: &Folders,
+) -> Result<WantedText, AllocError> {
     let wanted = wanted_of(alloc, setup, folders)?;
     let requests = format!(in alloc; "{wanted}")?;
     let ends = ends_of(alloc, &wanted)?;
@@ -43,7 +47,7 @@ fn texts_of(alloc: Global, setup: &Setup, folders: &Folders) -> Result<WantedTex
 }
 
 /// A line for each client and each path of which no more is asked.
-fn ends_of(alloc: Global, wanted: &Wanted<'_>) -> Result<String, AllocError> {
+fn ends_of(alloc: Global, wanted: &NextRequests<'_>) -> Result<String, AllocError> {
     let mut text = String::new(alloc);
     for end in &wanted.ends {
         writeln!(text, "{end}")?;
@@ -57,7 +61,7 @@ fn ends_of(alloc: Global, wanted: &Wanted<'_>) -> Result<String, AllocError> {
 /// Reads what there is of the chains that clients track, of the clients, and of the paths that name both ends of their channels.
 fn read_folders<'a, R: FileSystem>(
     rt: &R,
-    setup: &Setup,
+    setup: &ImportSetup,
     folder: &str,
 ) -> Result<Folders, ProgramError<'a>> {
     Ok(Folders {
@@ -69,7 +73,7 @@ fn read_folders<'a, R: FileSystem>(
 
 fn chain_folders<'a, R: FileSystem>(
     rt: &R,
-    setup: &Setup,
+    setup: &ImportSetup,
     folder: &str,
 ) -> Result<Vec<Folder>, ProgramError<'a>> {
     let mut folders = Vec::new(rt.alloc());
@@ -86,7 +90,7 @@ fn chain_folders<'a, R: FileSystem>(
 
 fn client_folders<'a, R: FileSystem>(
     rt: &R,
-    setup: &Setup,
+    setup: &ImportSetup,
     folder: &str,
 ) -> Result<Vec<Folder>, ProgramError<'a>> {
     let mut folders = Vec::new(rt.alloc());
@@ -100,7 +104,7 @@ fn client_folders<'a, R: FileSystem>(
 
 fn path_folders<'a, R: FileSystem>(
     rt: &R,
-    setup: &Setup,
+    setup: &ImportSetup,
     folder: &str,
 ) -> Result<Vec<Folder>, ProgramError<'a>> {
     let mut folders = Vec::new(rt.alloc());

@@ -14,12 +14,12 @@ use Rattle.rb_follow.specs.declared.answer.Answer.{Answer as CodeAnswer}
 use Rattle.rb_follow.specs.declared.answer.Answer.TheVariants as code
 use Rattle.rb_follow.specs.declared.told.Form.{Form}
 use Rattle.rb_follow.specs.declared.told.Form.TheVariants.{Text, Json}
-use Rattle.rb_follow.specs.declared.answer.Refusal.{Refusal as CodeRefusal}
-use Rattle.rb_follow.specs.declared.answer.Refusal.TheVariants as refusal
+use Rattle.rb_follow.specs.declared.answer.TurnRefusal.{TurnRefusal}
+use Rattle.rb_follow.specs.declared.answer.TurnRefusal.TheVariants as refusal
 use Rattle.rb_follow.specs.Followers.{Answer, planned, refused, Refusal, faulty, out_of_order}
 use Rattle.rb_follow.specs.FaultJson.{refusal_line, refusal_json}
 
-abbrev pub refusal_view : CodeRefusal → Refusal
+abbrev pub refusal_view : TurnRefusal → Refusal
 refusal_view (refusal.Fault n fault) = faulty n (fault_view fault)
 refusal_view (refusal.OutOfOrder due) = out_of_order due
 

@@ -8,12 +8,12 @@ pub enum Answer {
     /// The report of the turn that it is, by its number from 1.
     Planned { number: u64, report: TurnReport },
     /// Why it is no turn.
-    Refused(Refusal),
+    Refused(TurnRefusal),
 }
 
 /// Why a document is no turn.
 #[derive(Drop)]
-pub enum Refusal {
+pub enum TurnRefusal {
     /// It has a fault; with its number, where it begins with one.
     Fault { number: Option<u64>, fault: Fault },
     /// It begins with another number than this one, which is due.

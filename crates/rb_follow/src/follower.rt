@@ -17,7 +17,7 @@ ghost use Rattle.rb_core.specs.Core.{state_in};
 ghost use Rattle.rb_follow.specs.Drivers.{core_of};
 ghost use Rattle.rb_follow.specs.Answers.{answer_view};
 
-use crate::answer::{Answer, Refusal};
+use crate::answer::{Answer, TurnRefusal};
 use crate::driver::Driver;
 use crate::numbers::{number_text, numbered};
 use crate::setup::{path_ids, read_setup_text};
@@ -47,7 +47,7 @@ const NO_END: usize = 9_223_372_036_854_775_807;
 /// things stand, and up to which height of each chain was forgotten (`following` in specs/Views.antt). It
 /// keeps the turns' names, books and step tables, and not the turns or their reports. It is not `Drop`, as
 /// workers aren't: end it by `stop`.
-pub struct Follower<G: Gate> {
+pub struct TurnFollower<G: Gate> {
     pub alloc: Global,
     pub setup: Setup,
     pub paths: Vec<PathId>,
@@ -177,7 +177,7 @@ fn floors_of<R: Threads + Wait, G: Gate + Send + Sync + Drop + 'static>(
     }
 }
 
-impl<G: Gate + Send + Sync + Drop + 'static> Follower<G> {
+impl<G: Gate + Send + Sync + Drop + 'static> TurnFollower<G> {
     ghost use Rattle.rb_follow.specs.Views.{following};
 
     /// A follower that is set up with a script without turns, with so many workers in threads of their own, at
@@ -189,7 +189,7 @@ impl<G: Gate + Send + Sync + Drop + 'static> Follower<G> {
         setup: &[u8],
         workers: usize,
         gate: &Arc<G, Global>,
-    ) -> Result<Follower<G>, RunError>
+    ) -> Result<TurnFollower<G>, RunError>
         requires workers { workers ≤ 64 }
         ensures begun { Gives (λ f. following f) result (beginning setup.now) }
         ensures set_up { IfOk result (λ f. IsSetUp (following f).config) }
@@ -199,7 +199,7 @@ impl<G: Gate + Send + Sync + Drop + 'static> Follower<G> {
         let paths = path_ids(alloc, config.paths.as_slice())?;
         let owner = Arc::try_clone(gate)?;
         let driver = Driver::new(rt, alloc, config, workers, gate)?;
-        Ok(Follower {
+        Ok(TurnFollower {
             alloc,
             setup,
             paths,
@@ -213,7 +213,7 @@ impl<G: Gate + Send + Sync + Drop + 'static> Follower<G> {
         })
     }
 
-    /// A follower that goes on from a state, as `Follower::new` else; None where the text tells none that a follower
+    /// A follower that goes on from a state, as `TurnFollower::new` else; None where the text tells none that a follower
     /// which is set up so can be in.
     pub fn restored<R: Threads + Wait + Copy + Send + Sync + 'static>(
         rt: &R,
@@ -222,7 +222,7 @@ impl<G: Gate + Send + Sync + Drop + 'static> Follower<G> {
         state: &str,
         workers: usize,
         gate: &Arc<G, Global>,
-    ) -> Result<Option<Follower<G>>, RunError>
+    ) -> Result<Option<TurnFollower<G>>, RunError>
         requires workers { workers ≤ 64 }
         ensures set_up { IfOk result (λ found. IfSome found (λ f. setup_of setup.now ≡ Ok (following f).config)) }
         ensures refused { IfErr result (λ e. Fails e (setup_of setup.now)) }
@@ -243,7 +243,7 @@ impl<G: Gate + Send + Sync + Drop + 'static> Follower<G> {
         }
         let owner = Arc::try_clone(gate)?;
         let driver = Driver::over(rt, alloc, core, workers, gate)?;
-        Ok(Some(Follower {
+        Ok(Some(TurnFollower {
             alloc,
             setup,
             paths,
@@ -338,13 +338,13 @@ impl<G: Gate + Send + Sync + Drop + 'static> Follower<G> {
     fn tidied<R: Threads + Wait + Copy + Send + Sync + 'static>(
         self,
         rt: &R,
-    ) -> Result<Follower<G>, AllocError>
+    ) -> Result<TurnFollower<G>, AllocError>
         ensures { IfOk result (λ f. following f ≡ tidied (following self)) }
     {
         if !forgets(self.setup.version, &self.driver) {
             return Ok(self);
         }
-        let Follower {
+        let TurnFollower {
             alloc,
             setup,
             paths,
@@ -360,7 +360,7 @@ impl<G: Gate + Send + Sync + Drop + 'static> Follower<G> {
         raise(forgotten.as_slice(), &mut floors);
         let driver = driver.begin_anew(rt, alloc, workers, &gate)?;
         make_room(setup.version, &mut reading);
-        Ok(Follower {
+        Ok(TurnFollower {
             alloc,
             setup,
             paths,
@@ -379,7 +379,7 @@ impl<G: Gate + Send + Sync + Drop + 'static> Follower<G> {
         self,
         crew: &Crew<R, G>,
         next: NextTurn,
-    ) -> Result<(Follower<G>, Answer), RunError>
+    ) -> Result<(TurnFollower<G>, Answer), RunError>
         requires form { IsTurnFor (setup_view self.setup) next.turn }
         requires turns { self.turns < max_turns self.setup.version }
         requires room { self.events + most_events (setup_view self.setup) (turn_view next.turn) ≤ max_events }
@@ -387,7 +387,7 @@ impl<G: Gate + Send + Sync + Drop + 'static> Follower<G> {
         ensures right { OnOk result (IsRight (following self) (Ok (next_turn_view (reading_view self.reading) next))) }
         ensures memory { IfErr result (λ e. e ≡ RunError.NoMemory) }
     {
-        let Follower {
+        let TurnFollower {
             alloc,
             setup,
             paths,
@@ -405,7 +405,7 @@ impl<G: Gate + Send + Sync + Drop + 'static> Follower<G> {
         let (driver, reading) = read_on(crew.rt(), driver, reading, change)?;
         let (driver, report) = driver.turn(crew, turn)?;
         let turns = turns + 1;
-        let follower = Follower {
+        let follower = TurnFollower {
             alloc,
             setup,
             paths,
@@ -428,7 +428,7 @@ impl<G: Gate + Send + Sync + Drop + 'static> Follower<G> {
         crew: &Crew<R, G>,
         has_number: bool,
         body: &[u8],
-    ) -> Result<(Follower<G>, Answer), RunError>
+    ) -> Result<(TurnFollower<G>, Answer), RunError>
         ensures answer { IfOk result (λ r. IsAnswerFor (following self) (refusing (number_if has_number (self.turns + 1)) (read_turn (following self) body.now)) (answer_view r.1) (following r.0)) }
         ensures right { OnOk result (IsRight (following self) (refusing (number_if has_number (self.turns + 1)) (read_turn (following self) body.now))) }
         ensures memory { IfErr result (λ e. e ≡ RunError.NoMemory) }
@@ -437,7 +437,7 @@ impl<G: Gate + Send + Sync + Drop + 'static> Follower<G> {
             Ok(next) => self.take(crew, next),
             Err(RunError::Fault(fault)) => {
                 let number = has_number.then_some(self.turns as u64 + 1);
-                Ok((self, Answer::Refused(Refusal::Fault { number, fault })))
+                Ok((self, Answer::Refused(TurnRefusal::Fault { number, fault })))
             }
             Err(_) => {
                 self.stop(crew.rt());
@@ -457,7 +457,7 @@ impl<G: Gate + Send + Sync + Drop + 'static> Follower<G> {
         self,
         crew: &Crew<R, G>,
         document: &[u8],
-    ) -> Result<(Follower<G>, Answer), RunError>
+    ) -> Result<(TurnFollower<G>, Answer), RunError>
         ensures answer { IfOk result (λ r. IsAnswer (following self) document.now (answer_view r.1) (following r.0)) }
         ensures right { OnOk result (IsRight (following self) (next_turn (following self) document.now)) }
         ensures memory { IfErr result (λ e. e ≡ RunError.NoMemory) }
@@ -466,7 +466,7 @@ impl<G: Gate + Send + Sync + Drop + 'static> Follower<G> {
         match number_text(self.alloc, due) {
             Ok(text) => match numbered(text.as_str(), document) {
                 Some((has_number, body)) => self.answer_body(crew, has_number, body),
-                None => Ok((self, Answer::Refused(Refusal::OutOfOrder { due }))),
+                None => Ok((self, Answer::Refused(TurnRefusal::OutOfOrder { due }))),
             },
             Err(_) => {
                 self.stop(crew.rt());
@@ -477,7 +477,7 @@ impl<G: Gate + Send + Sync + Drop + 'static> Follower<G> {
 
     /// Ends the workers.
     pub fn stop<R: Threads + Wait>(self, rt: &R) {
-        let Follower {
+        let TurnFollower {
             alloc: _,
             setup: _setup,
             paths: _paths,

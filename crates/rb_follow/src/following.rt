@@ -13,9 +13,9 @@ ghost use Rattle.rb_follow.specs.Journals.{StoresAll, accepted, outs};
 ghost use Rattle.rb_follow.specs.Views.{following};
 ghost use Rattle.rb_follow.specs.Headline.{Told, ToldPiece, BeginsTelling, IsFollowError, Follows, BeginsFollowing, GoesOn, BeginsGoingOn};
 
-use crate::answer::{Answer, Refusal};
+use crate::answer::{Answer, TurnRefusal};
 use crate::error::FollowError;
-use crate::follower::Follower;
+use crate::follower::TurnFollower;
 use crate::gathering::Gathering;
 use crate::journal::Journal;
 use crate::labels::told;
@@ -51,7 +51,7 @@ impl<N: Watcher> Teller<'_, N> {
     #[tactic(auto, using(rb_text_report::proofs::Beginnings::beginnings))]
     fn put<G: Gate + Send + Sync + Drop + 'static, W: Sink>(
         &self,
-        follower: &Follower<G>,
+        follower: &TurnFollower<G>,
         answer: Answer,
         writer: &mut W,
     ) -> Result<(), RunError>
@@ -73,7 +73,7 @@ impl<N: Watcher> Teller<'_, N> {
             self.form,
             writer,
         )?;
-        if let Answer::Refused(Refusal::Fault { fault, .. }) = &told {
+        if let Answer::Refused(TurnRefusal::Fault { fault, .. }) = &told {
             self.watcher.refused(fault);
         }
         Ok(())
@@ -83,11 +83,11 @@ impl<N: Watcher> Teller<'_, N> {
 /// Writes an answer of a follower, or ends it.
 fn tell<R, G, W, N>(
     crew: &Crew<R, G>,
-    follower: Follower<G>,
+    follower: TurnFollower<G>,
     answer: Answer,
     teller: &Teller<'_, N>,
     writer: &mut W,
-) -> Result<Follower<G>, FollowError>
+) -> Result<TurnFollower<G>, FollowError>
 where
     R: Threads + Wait + Copy + Send + Sync + 'static,
     G: Gate + Send + Sync + Drop + 'static,
@@ -113,11 +113,11 @@ where
 #[tactic(auto, using(crate::proofs::Telling::stores_none))]
 fn store<R, G, J>(
     crew: &Crew<R, G>,
-    follower: Follower<G>,
+    follower: TurnFollower<G>,
     answer: &Answer,
     bytes: &[u8],
     journal: &mut J,
-) -> Result<Follower<G>, FollowError>
+) -> Result<TurnFollower<G>, FollowError>
 where
     R: Threads + Wait + Copy + Send + Sync + 'static,
     G: Gate + Send + Sync + Drop + 'static,
@@ -141,7 +141,7 @@ where
 
 /// Lets a long journal remember the state of a follower that has forgotten something. The document that comes was written
 /// by who had the answers to those before.
-fn remember<G, J>(follower: &Follower<G>, journal: &mut J) -> Result<(), AllocError>
+fn remember<G, J>(follower: &TurnFollower<G>, journal: &mut J) -> Result<(), AllocError>
 where
     G: Gate + Send + Sync + Drop + 'static,
     J: Journal,
@@ -159,7 +159,7 @@ where
 }
 
 /// Whether a journal remembers a state, and no batch is open any more that is open in it.
-fn is_answered<G, J>(follower: &Follower<G>, journal: &J) -> bool
+fn is_answered<G, J>(follower: &TurnFollower<G>, journal: &J) -> bool
 where
     G: Gate + Send + Sync + Drop + 'static,
     J: Journal,
@@ -174,9 +174,9 @@ where
 /// journal's turns have the answers to all open batches. Or ends the follower.
 fn renew<R, G, J>(
     crew: &Crew<R, G>,
-    follower: Follower<G>,
+    follower: TurnFollower<G>,
     journal: &mut J,
-) -> Result<Follower<G>, FollowError>
+) -> Result<TurnFollower<G>, FollowError>
 where
     R: Threads + Wait + Copy + Send + Sync + 'static,
     G: Gate + Send + Sync + Drop + 'static,
@@ -200,12 +200,12 @@ where
 /// Answers the document that was gathered, after the journal has it.
 fn answer_document<R, G, W, N, J>(
     crew: &Crew<R, G>,
-    follower: Follower<G>,
+    follower: TurnFollower<G>,
     gathering: &mut Gathering,
     teller: &Teller<'_, N>,
     journal: &mut J,
     writer: &mut W,
-) -> Result<Follower<G>, FollowError>
+) -> Result<TurnFollower<G>, FollowError>
 where
     R: Threads + Wait + Copy + Send + Sync + 'static,
     G: Gate + Send + Sync + Drop + 'static,
@@ -230,13 +230,13 @@ where
 /// Answers the documents that end in a piece of the input, and gathers what the piece has of the next.
 fn answer_piece<R, G, W, N, J>(
     crew: &Crew<R, G>,
-    follower: Follower<G>,
+    follower: TurnFollower<G>,
     gathering: &mut Gathering,
     piece: &[u8],
     teller: &Teller<'_, N>,
     journal: &mut J,
     writer: &mut W,
-) -> Result<Follower<G>, FollowError>
+) -> Result<TurnFollower<G>, FollowError>
 where
     R: Threads + Wait + Copy + Send + Sync + 'static,
     G: Gate + Send + Sync + Drop + 'static,
@@ -270,12 +270,12 @@ where
 /// the input, or the beginning of one, which is refused.
 fn answer_rest<R, G, W, N, J>(
     crew: &Crew<R, G>,
-    follower: Follower<G>,
+    follower: TurnFollower<G>,
     gathering: &mut Gathering,
     teller: &Teller<'_, N>,
     journal: &mut J,
     writer: &mut W,
-) -> Result<Follower<G>, FollowError>
+) -> Result<TurnFollower<G>, FollowError>
 where
     R: Threads + Wait + Copy + Send + Sync + 'static,
     G: Gate + Send + Sync + Drop + 'static,
@@ -296,7 +296,7 @@ where
     }
     match fault_at(teller.alloc, "-", FaultName::NotToml) {
         RunError::Fault(fault) => {
-            let refusal = Refusal::Fault {
+            let refusal = TurnRefusal::Fault {
                 number: None,
                 fault,
             };
@@ -312,12 +312,12 @@ where
 /// Answers the documents of an input to its end.
 fn answer_all<R, G, I, W, N, J>(
     crew: &Crew<R, G>,
-    follower: Follower<G>,
+    follower: TurnFollower<G>,
     input: &mut I,
     teller: &Teller<'_, N>,
     journal: &mut J,
     writer: &mut W,
-) -> Result<Follower<G>, FollowError>
+) -> Result<TurnFollower<G>, FollowError>
 where
     R: Threads + Wait + Copy + Send + Sync + 'static,
     G: Gate + Send + Sync + Drop + 'static,
@@ -373,7 +373,7 @@ where
 
 /// The first line of a report, or the greeting.
 fn put_head<W: Sink, G: Gate + Send + Sync + Drop + 'static>(
-    follower: &Follower<G>,
+    follower: &TurnFollower<G>,
     form: Form,
     writer: &mut W,
 ) -> Result<(), RunError>
@@ -389,10 +389,10 @@ fn put_head<W: Sink, G: Gate + Send + Sync + Drop + 'static>(
 /// Writes the first line for a follower, or ends it.
 fn begin<R: Threads + Wait, G: Gate + Send + Sync + Drop + 'static, W: Sink>(
     rt: &R,
-    follower: Follower<G>,
+    follower: TurnFollower<G>,
     form: Form,
     writer: &mut W,
-) -> Result<Follower<G>, RunError>
+) -> Result<TurnFollower<G>, RunError>
     requires { W.is_broken writer.old ≡ false }
     ensures same { IfOk result (λ g. g ≡ follower) }
     ensures written { OnOk result (Appends (W.taken writer.old) (W.taken writer.new) (head_text form (following follower).config.version)) }
@@ -463,7 +463,7 @@ where
     ensures begun { OnErr result (((writer.new ≡ writer.old) × (J.documents journal.new ≡ J.documents journal.old)) ⊎ IfSome (I.remaining input.old) (λ bytes. BeginsFollowing form setup.now bytes (outs (W.taken writer.old) (J.documents journal.old)) (outs (W.taken writer.new) (J.documents journal.new)))) }
 {
     let crew = Crew::new(rt, workers, &**gate);
-    let follower = Follower::new(rt, alloc, setup, workers, gate)?;
+    let follower = TurnFollower::new(rt, alloc, setup, workers, gate)?;
     let follower = begin(rt, follower, form, writer)?;
     let teller = Teller {
         alloc,
@@ -484,14 +484,14 @@ fn restored<R, G>(
     state: &str,
     workers: usize,
     gate: &Arc<G, Global>,
-) -> Result<Follower<G>, FollowError>
+) -> Result<TurnFollower<G>, FollowError>
 where
     R: Threads + Wait + Copy + Send + Sync + 'static,
     G: Gate + Send + Sync + Drop + 'static,
     requires { workers ≤ 64 }
     ensures { IfOk result (λ f. setup_of setup.now ≡ Ok (following f).config) }
 {
-    match Follower::restored(rt, alloc, setup, state, workers, gate)? {
+    match TurnFollower::restored(rt, alloc, setup, state, workers, gate)? {
         Some(follower) => Ok(follower),
         None => Err(FollowError::Journal(io::Error::new(
             io::ErrorKind::InvalidData,

@@ -1,4 +1,4 @@
-//! Turns as they come: a `Follower` reads each from a document of its own, leads a relayer through it and
+//! Turns as they come: a `TurnFollower` reads each from a document of its own, leads a relayer through it and
 //! answers by its report, or by the fault of the document, which then changes nothing. From version 3 on it
 //! forgets what no plan needs any more (`tidying`). `follow_over` goes over an input to its end: its documents
 //! end by lines `---`.
@@ -19,10 +19,10 @@ mod tidying;
 mod told;
 mod turns;
 
-pub use answer::{Answer, Refusal};
+pub use answer::{Answer, TurnRefusal};
 pub use driver::Driver;
 pub use error::FollowError;
-pub use follower::Follower;
+pub use follower::TurnFollower;
 pub use following::{Watcher, follow_on, follow_over};
 pub use gathering::Gathering;
 pub use journal::{Journal, NoJournal};

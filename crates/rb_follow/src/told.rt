@@ -11,7 +11,7 @@ ghost use Rattle.rb_follow.specs.Answers.{mark, answer_view, refusal_view, whole
 ghost use Rattle.rb_follow.specs.FaultJson.{fault_json, named_members, order_members, placed_members, refusal_json, refusal_line, turn_members};
 ghost use Rattle.rb_follow.specs.Followers.{out_of_order};
 
-use crate::answer::{Answer, Refusal};
+use crate::answer::{Answer, TurnRefusal};
 use rb_base::{ChainId, Device, PathId, Sink, write_whole};
 use rb_script_text::{push_escaped, push_name, push_number, push_text};
 use rb_script_toml::{Fault, RunError};
@@ -181,24 +181,24 @@ fn json_of_order(alloc: Global, due: u64) -> Result<String, AllocError>
 }
 
 /// The line of a refusal, and the line `---`.
-fn text_of_refusal(alloc: Global, refusal: &Refusal) -> Result<String, AllocError>
+fn text_of_refusal(alloc: Global, refusal: &TurnRefusal) -> Result<String, AllocError>
     ensures { IfOk result (λ text. string_bytes text ≡ refusal_line (refusal_view refusal.now) ++ codes "\n" ++ mark) }
 {
     match refusal {
-        Refusal::Fault { fault, .. } => text_of_fault(alloc, fault),
-        Refusal::OutOfOrder { .. } => {
+        TurnRefusal::Fault { fault, .. } => text_of_fault(alloc, fault),
+        TurnRefusal::OutOfOrder { .. } => {
             String::from_str(alloc, "fault 1035 OutOfOrder at turn\n---\n")
         }
     }
 }
 
 /// A refusal as an object of JSON, and a line feed.
-fn json_of_refusal(alloc: Global, refusal: &Refusal) -> Result<String, AllocError>
+fn json_of_refusal(alloc: Global, refusal: &TurnRefusal) -> Result<String, AllocError>
     ensures { IfOk result (λ text. string_bytes text ≡ json_text (refusal_json (refusal_view refusal.now)) ++ codes "\n") }
 {
     match refusal {
-        Refusal::Fault { number, fault } => json_of_fault(alloc, *number, fault),
-        Refusal::OutOfOrder { due } => json_of_order(alloc, *due),
+        TurnRefusal::Fault { number, fault } => json_of_fault(alloc, *number, fault),
+        TurnRefusal::OutOfOrder { due } => json_of_order(alloc, *due),
     }
 }
 

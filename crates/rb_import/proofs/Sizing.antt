@@ -5,9 +5,9 @@ use Rattle.std.specs.List.{enumerate_from}
 use Rattle.std.proofs.lemmas.List.Elements.{All-map}
 use Rattle.std.proofs.lemmas.List.Sums.{sum_by_more}
 use Rattle.rb_import_setup.specs.declared.setup.ClientSetup.{ClientSetup}
-use Rattle.rb_import_setup.specs.declared.setup.Setup.{Setup}
+use Rattle.rb_import_setup.specs.declared.setup.ImportSetup.{ImportSetup}
 use Rattle.rb_import_merge.specs.Errors.{IsNamedIn}
-use Rattle.rb_import_merge.specs.declared.seen.Seen.{Seen}
+use Rattle.rb_import_merge.specs.declared.seen.SeenSetup.{SeenSetup}
 use Rattle.rb_import.specs.Shares.{IsLargest, IsLargestIn, Sized, share_of, shares_of, shown, total}
 use Rattle.rb_import.specs.declared.shares.Share.{Share}
 
@@ -44,24 +44,24 @@ in_numbered {X = X} n (x ∷ xs) p (suc k, small, is) = later x p.1 xs (in_numbe
 
 -- ---- who brings the most
 
-pub largest_is : (setup : Setup) (seen : Seen) (shares : List Share) (s : Share) → map shown shares ≡ shares_of setup seen → Contains shares s
+pub largest_is : (setup : ImportSetup) (seen : SeenSetup) (shares : List Share) (s : Share) → map shown shares ≡ shares_of setup seen → Contains shares s
     → All (λ (t : Share). t.size ≤ s.size) shares → IsLargest setup seen s.id.now
 unfolding IsLargest
 largest_is setup seen shares s are there most =
     let many : All (λ (t : Sized). t.1 ≤ s.size) (map shown shares) = All-map (λ (t : Sized). t.1 ≤ s.size) shown shares most in
     inl (subst (λ ss. IsLargestIn ss s.id.now) are (shown s, in_map shown shares s there, refl, many))
 
-none_shared : (setup : Setup) (seen : Seen) (n : ℕ) (cs : List ClientSetup) → [] ≡ map (share_of setup seen) (enumerate_from n cs) → cs ≡ []
+none_shared : (setup : ImportSetup) (seen : SeenSetup) (n : ℕ) (cs : List ClientSetup) → [] ≡ map (share_of setup seen) (enumerate_from n cs) → cs ≡ []
 none_shared setup seen n [] e = refl
 none_shared setup seen n (c ∷ cs) e =
     let less : 0 ≡ suc (length (map (share_of setup seen) (enumerate_from (n + 1) cs))) = ap length e in absurd (omega (arith, less))
 
-pub no_largest : (setup : Setup) (seen : Seen) (shares : List Share) → map shown shares ≡ shares_of setup seen → shares ≡ [] → IsLargest setup seen (codes "-")
+pub no_largest : (setup : ImportSetup) (seen : SeenSetup) (shares : List Share) → map shown shares ≡ shares_of setup seen → shares ≡ [] → IsLargest setup seen (codes "-")
 unfolding IsLargest
 no_largest setup seen shares are none =
     inr (none_shared setup seen 0 setup.clients.items (ap (map shown) (sym none) ∙ are), refl)
 
-pub named_by : (setup : Setup) (seen : Seen) (shares : List Share) (s : Share) → map shown shares ≡ shares_of setup seen → Contains shares s → IsNamedIn setup s.id.now
+pub named_by : (setup : ImportSetup) (seen : SeenSetup) (shares : List Share) (s : Share) → map shown shares ≡ shares_of setup seen → Contains shares s → IsNamedIn setup s.id.now
 named_by setup seen shares s are there =
     let (p, numbered, same) = from_map (share_of setup seen) (enumerate_from 0 setup.clients.items) (shown s) (subst (λ ss. Contains ss (shown s)) are (in_map shown shares s there)) in
     inr (inl (p.1, in_numbered 0 setup.clients.items p numbered, ap (λ (t : Sized). t.0) same))

@@ -19,7 +19,7 @@ use Rattle.rb_import_answers.specs.declared.commit.Signature.{Signature}
 use Rattle.rb_import_answers.specs.declared.packets.PacketEvent.{PacketEvent}
 use Rattle.rb_import_answers.specs.declared.packets.PacketKind.{PacketKind}
 use Rattle.rb_import_answers.specs.declared.packets.PacketKind.TheVariants as kinds
-use Rattle.rb_import_answers.specs.declared.verdicts.Verdict.{Verdict}
+use Rattle.rb_import_answers.specs.declared.verdicts.CommitVerdict.{CommitVerdict}
 use Rattle.rb_import_check.specs.Chains.{block_time}
 use Rattle.rb_import_check.specs.declared.chain.Commit.{Commit}
 use Rattle.rb_import_check.specs.declared.chain.SeenChain.{SeenChain}
@@ -27,11 +27,11 @@ use Rattle.rb_import_check.specs.declared.client.Stored.{Stored}
 use Rattle.rb_import_check.specs.declared.sets.SeenSet.{SeenSet}
 use Rattle.rb_import_check.specs.Signed.{is_bad}
 use Rattle.rb_import_setup.specs.declared.setup.PathSetup.{PathSetup}
-use Rattle.rb_import_setup.specs.declared.setup.Setup.{Setup}
+use Rattle.rb_import_setup.specs.declared.setup.ImportSetup.{ImportSetup}
 use Rattle.rb_import_merge.specs.declared.kept.KeptSets.{KeptSets}
 use Rattle.rb_import_merge.specs.declared.packets.SeenPacket.{SeenPacket}
 use Rattle.rb_import_merge.specs.declared.path.SeenPath.{SeenPath}
-use Rattle.rb_import_merge.specs.declared.seen.Seen.{Seen}
+use Rattle.rb_import_merge.specs.declared.seen.SeenSetup.{SeenSetup}
 use Rattle.rb_import_merge.specs.Seen.{is_written}
 
 -- ---- chains
@@ -51,7 +51,7 @@ vote_by false flags.Commit = votes.Commit
 vote_by is_bad flags.Nil = votes.Nil
 vote_by is_bad flags.Absent = votes.Absent
 
-abbrev pub vote_at : Option Verdict → ℕ × Signature → Vote
+abbrev pub vote_at : Option CommitVerdict → ℕ × Signature → Vote
 vote_at verdict p = vote_by (is_bad verdict p.0) p.1.flag
 
 -- the votes of a commit, in set order
@@ -67,11 +67,11 @@ header_in c = record {
 }
 
 -- the header of a commit, where there is an event of its own set
-abbrev pub header_at : Seen → ℕ → Commit → List (Observation Global)
+abbrev pub header_at : SeenSetup → ℕ → Commit → List (Observation Global)
 header_at seen place c =
     if is_written (slice_get seen.chains.items place) (slice_get seen.sets.items place) c.header.now.set then HeaderSeen place (header_in c) ∷ [] else []
 
-unfoldable pub header_events : Seen → ℕ → List Commit → List (Observation Global)
+unfoldable pub header_events : SeenSetup → ℕ → List Commit → List (Observation Global)
 header_events seen place commits = flat_map (header_at seen place) commits
 
 abbrev pub sets_of : ℕ → SeenChain → Option KeptSets → List (Observation Global)
@@ -79,10 +79,10 @@ sets_of place chain (Some kept) = set_events place chain kept
 sets_of place chain None = []
 
 -- the events of the chain at a place
-unfoldable pub chain_events : Seen → ℕ × SeenChain → List (Observation Global)
+unfoldable pub chain_events : SeenSetup → ℕ × SeenChain → List (Observation Global)
 chain_events seen p = sets_of p.0 p.1 (slice_get seen.sets.items p.0) ++ header_events seen p.0 p.1.commits.items
 
-unfoldable pub chains_events : Seen → List (Observation Global)
+unfoldable pub chains_events : SeenSetup → List (Observation Global)
 chains_events seen = flat_map (chain_events seen) (enumerate_from 0 seen.chains.items)
 
 -- ---- clients
@@ -95,7 +95,7 @@ stored_in client s = StoredSeen client s.state.now.height (record { time = s.sta
 abbrev pub client_events : ℕ × Vec Stored GlobalAllocator → List (Observation Global)
 client_events p = map (stored_in p.0) p.1.items
 
-unfoldable pub clients_events : Seen → List (Observation Global)
+unfoldable pub clients_events : SeenSetup → List (Observation Global)
 clients_events seen = flat_map client_events (enumerate_from 0 seen.records.items)
 
 -- ---- paths
@@ -110,11 +110,11 @@ writer_of path kinds.Cleared = None
 writer_of path kinds.TimedOut = None
 
 -- the time of a block of the chain at a place, where a header of it was seen
-abbrev pub time_at : Seen → ℕ → ℕ → Option ℕ
+abbrev pub time_at : SeenSetup → ℕ → ℕ → Option ℕ
 time_at seen place height = option_and_then (λ (c : SeenChain). block_time (c.commits.items ++ c.bare.items) height) (slice_get seen.chains.items place)
 
 -- the block that an event stands in, and its time
-abbrev pub block_of : Seen → PathConfig → PacketEvent → Block
+abbrev pub block_of : SeenSetup → PathConfig → PacketEvent → Block
 block_of seen path e = record { height = e.block; time = option_and_then (λ place. time_at seen place e.block) (writer_of path e.kind) }
 
 -- a height, and none for 0
@@ -134,7 +134,7 @@ packet_by kinds.Cleared path block p = Cleared path p.event.now.sequence
 packet_by kinds.TimedOut path block p = Cleared path p.event.now.sequence
 
 -- the event of a packet of the path at a place
-abbrev pub packet_in : Seen → ℕ → PathConfig → SeenPacket → Observation Global
+abbrev pub packet_in : SeenSetup → ℕ → PathConfig → SeenPacket → Observation Global
 packet_in seen place path p = packet_by p.event.now.kind place (block_of seen path p.event.now) p
 
 abbrev pub is_ordered : Order → Bool
@@ -146,19 +146,19 @@ abbrev pub closing : ℕ → PathConfig → Bool → List (Observation Global)
 closing place path timed_out = if is_ordered path.order && timed_out then Closed place ∷ [] else []
 
 -- the events of the path at a place
-unfoldable pub path_events : Seen → ℕ → PathConfig → SeenPath → List (Observation Global)
+unfoldable pub path_events : SeenSetup → ℕ → PathConfig → SeenPath → List (Observation Global)
 path_events seen place path it = map (packet_in seen place path) it.packets.items ++ closing place path it.timed_out
 
-abbrev pub events_of : Seen → ℕ → PathConfig → Option SeenPath → List (Observation Global)
+abbrev pub events_of : SeenSetup → ℕ → PathConfig → Option SeenPath → List (Observation Global)
 events_of seen place path (Some it) = path_events seen place path it
 events_of seen place path None = []
 
-abbrev pub path_at : Seen → ℕ × PathSetup → List (Observation Global)
+abbrev pub path_at : SeenSetup → ℕ × PathSetup → List (Observation Global)
 path_at seen p = events_of seen p.0 p.1.config (slice_get seen.paths.items p.0)
 
-unfoldable pub paths_events : Setup → Seen → List (Observation Global)
+unfoldable pub paths_events : ImportSetup → SeenSetup → List (Observation Global)
 paths_events setup seen = flat_map (path_at seen) (enumerate_from 0 setup.paths.items)
 
 -- of each chain its sets and headers, of each client its consensus states, of each path its packets
-unfoldable pub events_in : Setup → Seen → List (Observation Global)
+unfoldable pub events_in : ImportSetup → SeenSetup → List (Observation Global)
 events_in setup seen = chains_events seen ++ clients_events seen ++ paths_events setup seen

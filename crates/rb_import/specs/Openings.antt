@@ -9,7 +9,7 @@ use Rattle.rb_import_check.specs.declared.chain.Commit.{Commit}
 use Rattle.rb_import_check.specs.declared.chain.SeenChain.{SeenChain}
 use Rattle.rb_import_check.specs.declared.saved.SavedAnswers.{SavedAnswers}
 use Rattle.rb_import_check.specs.Verdicts.{has_verdicts, verdicts_of}
-use Rattle.rb_import_merge.specs.declared.seen.Seen.{Seen}
+use Rattle.rb_import_merge.specs.declared.seen.SeenSetup.{SeenSetup}
 use Rattle.rb_import.specs.Tallies.{bad_votes, capped, good_votes, is_verified, unchecked_votes}
 use Rattle.rb_import.specs.Texts.{heading}
 
@@ -35,7 +35,7 @@ abbrev pub verifier_of : SavedAnswers → List ℕ
 verifier_of answers = verifier_in (flat_map (λ saved. verdicts_of saved.items) answers.chains.items)
 
 -- the commits that were seen, chain by chain
-abbrev pub seen_commits : Seen → List Commit
+abbrev pub seen_commits : SeenSetup → List Commit
 seen_commits seen = flat_map (λ (chain : SeenChain). chain.commits.items) seen.chains.items
 
 -- so many commits and verified ones, good, bad and unchecked votes, and who verified them, in words
@@ -51,11 +51,11 @@ words_on commits verifier =
     (capped (sum_by unchecked_votes commits)) verifier
 
 -- the words on the commits that were seen, as much of them as the line shows
-unfoldable pub words_of : SavedAnswers → Seen → List ℕ
+unfoldable pub words_of : SavedAnswers → SeenSetup → List ℕ
 words_of answers seen = plain_text (chars (words_on (seen_commits seen) (verifier_of answers)))
 
 -- the line that says who verified signatures where there are verdicts, and the warning where there are none
-unfoldable pub opening_of : SavedAnswers → Seen → List ℕ
+unfoldable pub opening_of : SavedAnswers → SeenSetup → List ℕ
 opening_of answers seen = if hold_verdicts answers then credit (words_of answers seen) else warning
 
 -- ---- what it says of verdicts

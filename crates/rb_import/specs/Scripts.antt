@@ -16,13 +16,13 @@ use Rattle.rb_script_read.specs.Scripts.{script_of}
 use Rattle.rb_import_setup.specs.Documents.{max_bytes}
 use Rattle.rb_import_setup.specs.declared.setup.ClientSetup.{ClientSetup}
 use Rattle.rb_import_setup.specs.declared.setup.PathSetup.{PathSetup}
-use Rattle.rb_import_setup.specs.declared.setup.Setup.{Setup}
+use Rattle.rb_import_setup.specs.declared.setup.ImportSetup.{ImportSetup}
 use Rattle.rb_import_setup.specs.declared.setup.TurnSetup.{TurnSetup}
 use Rattle.rb_import_check.specs.declared.client.SeenClient.{SeenClient}
 use Rattle.rb_import_check.specs.declared.saved.SavedAnswers.{SavedAnswers}
 use Rattle.rb_import_merge.specs.Pending.{first_of}
 use Rattle.rb_import_merge.specs.Seen.{answers_at}
-use Rattle.rb_import_merge.specs.declared.seen.Seen.{Seen}
+use Rattle.rb_import_merge.specs.declared.seen.SeenSetup.{SeenSetup}
 use Rattle.rb_import.specs.Events.{events_in}
 use Rattle.rb_import.specs.Openings.{opening_of}
 use Rattle.rb_import.specs.Texts.{heading}
@@ -51,7 +51,7 @@ client_in p = record {
 abbrev pub path_in : SavedAnswers → ℕ × PathSetup → PathConfig
 path_in answers p = record p.1.config { first = first_of p.1 (answers_at answers.paths.items p.0) }
 
-abbrev pub config_in : Setup → SavedAnswers → Seen → Config
+abbrev pub config_in : ImportSetup → SavedAnswers → SeenSetup → Config
 config_in setup answers seen = record {
   version = Four;
   limit = max_records Four;
@@ -65,24 +65,24 @@ abbrev pub turn_with : List (Observation Global) → TurnSetup → Turn Global
 turn_with events t = record { window = t.window; windows = t.windows.items; goals = t.goals.items; events = events; settlements = t.settlements.items; taken = false }
 
 -- the last of so many turns has what was seen
-abbrev pub turn_in : Setup → Seen → ℕ × TurnSetup → Turn Global
+abbrev pub turn_in : ImportSetup → SeenSetup → ℕ × TurnSetup → Turn Global
 turn_in setup seen p = turn_with (if p.0 + 1 == length setup.turns.items then events_in setup seen else []) p.1
 
 -- the script of version 4
-unfoldable pub script_in : Setup → SavedAnswers → Seen → Script Global
+unfoldable pub script_in : ImportSetup → SavedAnswers → SeenSetup → Script Global
 script_in setup answers seen = record { config = config_in setup answers seen; turns = map (turn_in setup seen) (enumerate_from 0 setup.turns.items) }
 
 -- ---- its text
 
 -- the script is that of what was seen
-abbrev pub IsMadeOf : Setup → SavedAnswers → Seen → CodeScript Global → Type 0
+abbrev pub IsMadeOf : ImportSetup → SavedAnswers → SeenSetup → CodeScript Global → Type 0
 IsMadeOf setup answers seen script = script_view script ≡ script_in setup answers seen
 
 -- behind the opening line and the heading stand tables
-abbrev pub BeginsAs : SavedAnswers → Seen → List ℕ → Type 0
+abbrev pub BeginsAs : SavedAnswers → SeenSetup → List ℕ → Type 0
 BeginsAs answers seen text = (tables : List ℕ) × (text ≡ opening_of answers seen ++ heading ++ tables)
 
 -- the reader reads the text as the script of what was seen; it is no longer than is read
-unfoldable pub IsFitting : Setup → SavedAnswers → Seen → List ℕ → Type 0
+unfoldable pub IsFitting : ImportSetup → SavedAnswers → SeenSetup → List ℕ → Type 0
 IsFitting setup answers seen text =
     (script_of text ≡ Ok (script_in setup answers seen)) × BeginsAs answers seen text × (length text ≤ max_bytes)

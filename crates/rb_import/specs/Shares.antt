@@ -4,14 +4,14 @@ use Rattle.std.specs.Global.{Global}
 use Rattle.std.specs.List.{enumerate_from}
 use Rattle.rb_import_setup.specs.declared.setup.ClientSetup.{ClientSetup}
 use Rattle.rb_import_setup.specs.declared.setup.PathSetup.{PathSetup}
-use Rattle.rb_import_setup.specs.declared.setup.Setup.{Setup}
+use Rattle.rb_import_setup.specs.declared.setup.ImportSetup.{ImportSetup}
 use Rattle.rb_import_check.specs.declared.chain.Commit.{Commit}
 use Rattle.rb_import_check.specs.declared.chain.SeenChain.{SeenChain}
 use Rattle.rb_import_check.specs.declared.client.Stored.{Stored}
 use Rattle.rb_import_check.specs.declared.sets.SeenSet.{SeenSet}
 use Rattle.rb_import_merge.specs.declared.kept.KeptSets.{KeptSets}
 use Rattle.rb_import_merge.specs.declared.path.SeenPath.{SeenPath}
-use Rattle.rb_import_merge.specs.declared.seen.Seen.{Seen}
+use Rattle.rb_import_merge.specs.declared.seen.SeenSetup.{SeenSetup}
 use Rattle.rb_import.specs.declared.shares.Share.{Share}
 pub use Rattle.rb_import.specs.Tallies.{capped}
 
@@ -44,7 +44,7 @@ chain_size_in (Some chain) (Some kept) = capped (sets_size chain kept + headers_
 chain_size_in chain kept = 0
 
 -- the size of what is written of the chain at a place: its sets and its headers
-abbrev pub chain_size : Seen → ℕ → ℕ
+abbrev pub chain_size : SeenSetup → ℕ → ℕ
 chain_size seen place = chain_size_in (slice_get seen.chains.items place) (slice_get seen.sets.items place)
 
 -- ---- clients
@@ -54,7 +54,7 @@ states_in (Some records) = capped (250 * length records.items)
 states_in None = 0
 
 -- the size of the consensus states of the client at a place: 250 bytes for each
-abbrev pub states_size : Seen → ℕ → ℕ
+abbrev pub states_size : SeenSetup → ℕ → ℕ
 states_size seen place = states_in (slice_get seen.records.items place)
 
 -- ---- paths
@@ -68,16 +68,16 @@ packets_in (Some seen) served = if served then capped (100 * length seen.packets
 packets_in None served = 0
 
 -- the size of the packets of a path, if the client at a place serves it: 100 bytes for each event
-abbrev pub path_size : Seen → ℕ → ℕ × PathSetup → ℕ
+abbrev pub path_size : SeenSetup → ℕ → ℕ × PathSetup → ℕ
 path_size seen place p = packets_in (slice_get seen.paths.items p.0) (serves place p.1)
 
-abbrev pub paths_size : Setup → Seen → ℕ → ℕ
+abbrev pub paths_size : ImportSetup → SeenSetup → ℕ → ℕ
 paths_size setup seen place = total (map (path_size seen place) (enumerate_from 0 setup.paths.items))
 
 -- ---- shares
 
 -- the size of what a client brings: its consensus states, what is written of the chain that it tracks, and the packets of the paths that it serves
-abbrev pub client_size : Setup → Seen → ℕ → ClientSetup → ℕ
+abbrev pub client_size : ImportSetup → SeenSetup → ℕ → ClientSetup → ℕ
 client_size setup seen place c = capped (capped (states_size seen place + chain_size seen c.tracks) + paths_size setup seen place)
 
 -- the identifier of a client, and the size of what it brings
@@ -87,11 +87,11 @@ Sized = List ℕ × ℕ
 abbrev pub shown : Share → Sized
 shown s = (s.id.now, s.size)
 
-abbrev pub share_of : Setup → Seen → ℕ × ClientSetup → Sized
+abbrev pub share_of : ImportSetup → SeenSetup → ℕ × ClientSetup → Sized
 share_of setup seen p = (p.1.id, client_size setup seen p.0 p.1)
 
 -- how much each client brings
-abbrev pub shares_of : Setup → Seen → List Sized
+abbrev pub shares_of : ImportSetup → SeenSetup → List Sized
 shares_of setup seen = map (share_of setup seen) (enumerate_from 0 setup.clients.items)
 
 -- the identifier of one of these that is no less than any other
@@ -99,5 +99,5 @@ abbrev pub IsLargestIn : List Sized → List ℕ → Type 0
 IsLargestIn shares id = (s : Sized) × Contains shares s × (s.0 ≡ id) × All (λ (t : Sized). t.1 ≤ s.1) shares
 
 -- the identifier of a client that brings no less than any other; `-`, which stands for the script, where there is no client
-unfoldable pub IsLargest : Setup → Seen → List ℕ → Type 0
+unfoldable pub IsLargest : ImportSetup → SeenSetup → List ℕ → Type 0
 IsLargest setup seen id = IsLargestIn (shares_of setup seen) id ⊎ ((setup.clients.items ≡ []) × (id ≡ codes "-"))

@@ -1,26 +1,26 @@
 -- How many commits a script has headers of, how many of these were verified, and how many of their votes are good, bad and not checkable.
 use Rattle.std.specs.Prelude.{◌≡◌, ◌-◌, ◌^◌, ℕ, Bool, List, length, count_by, sum_by, min, is_some, Option, Some, None, option_map}
-use Rattle.rb_import_answers.specs.declared.verdicts.Verdict.{Verdict}
+use Rattle.rb_import_answers.specs.declared.verdicts.CommitVerdict.{CommitVerdict}
 use Rattle.rb_import_check.specs.declared.chain.Commit.{Commit}
 use Rattle.rb_import.specs.declared.opening.Tally.{Tally}
 
 -- the verdict on a commit, where there is one
-abbrev pub verdict_on : Commit → Option Verdict
+abbrev pub verdict_on : Commit → Option CommitVerdict
 verdict_on c = option_map (λ v. v.now) c.verdict
 
 -- whether a commit was verified
 abbrev pub is_verified : Commit → Bool
 is_verified c = is_some (verdict_on c)
 
-abbrev pub good_in : Option Verdict → ℕ
+abbrev pub good_in : Option CommitVerdict → ℕ
 good_in (Some v) = v.good
 good_in None = 0
 
-abbrev pub bad_in : Option Verdict → ℕ
+abbrev pub bad_in : Option CommitVerdict → ℕ
 bad_in (Some v) = length v.bad.items
 bad_in None = 0
 
-abbrev pub unchecked_in : Option Verdict → ℕ
+abbrev pub unchecked_in : Option CommitVerdict → ℕ
 unchecked_in (Some v) = length v.unchecked.items
 unchecked_in None = 0
 

@@ -4,9 +4,9 @@ ghost use Rattle.std.specs.List.{enumerate_from};
 ghost use Rattle.rb_import.specs.Events.{chain_events, chains_events, header_at, header_events, header_in, set_at, set_events, sets_of, vote_at, vote_by};
 
 use rb_book::{Header, Record, Vote};
-use rb_import_answers::{BlockIdFlag, Signature, Verdict};
+use rb_import_answers::{BlockIdFlag, CommitVerdict, Signature};
 use rb_import_check::{Commit, SeenChain, is_bad};
-use rb_import_merge::{KeptSets, Seen};
+use rb_import_merge::{KeptSets, SeenSetup};
 use rb_script_types::Observation;
 use std::alloc::{AllocError, Global};
 
@@ -15,7 +15,7 @@ use std::alloc::{AllocError, Global};
 pub(crate) fn push_chains(
     alloc: Global,
     events: &mut Vec<Observation>,
-    seen: &Seen<'_>,
+    seen: &SeenSetup<'_>,
 ) -> Result<(), AllocError>
     ensures { OnOk result (events.new.items ≡ events.old.items ++ chains_events seen.now) }
 {
@@ -29,7 +29,7 @@ pub(crate) fn push_chains(
 fn push_chain(
     alloc: Global,
     events: &mut Vec<Observation>,
-    seen: &Seen<'_>,
+    seen: &SeenSetup<'_>,
     place: usize,
     chain: &SeenChain<'_>,
 ) -> Result<(), AllocError>
@@ -42,7 +42,7 @@ fn push_chain(
 /// Adds the sets of a chain that its light store has room for.
 fn push_sets_of(
     events: &mut Vec<Observation>,
-    seen: &Seen<'_>,
+    seen: &SeenSetup<'_>,
     place: usize,
     chain: &SeenChain<'_>,
 ) -> Result<(), AllocError>
@@ -91,7 +91,7 @@ fn push_set(
 fn push_headers(
     alloc: Global,
     events: &mut Vec<Observation>,
-    seen: &Seen<'_>,
+    seen: &SeenSetup<'_>,
     place: usize,
     commits: &[Commit<'_>],
 ) -> Result<(), AllocError>
@@ -107,7 +107,7 @@ fn push_headers(
 fn push_header(
     alloc: Global,
     events: &mut Vec<Observation>,
-    seen: &Seen<'_>,
+    seen: &SeenSetup<'_>,
     place: usize,
     commit: &Commit<'_>,
 ) -> Result<(), AllocError>
@@ -138,7 +138,7 @@ fn header_of(alloc: Global, commit: &Commit<'_>) -> Result<Header, AllocError>
 /// The votes of a commit, in set order, of which its verdict calls some bad.
 fn votes_of(
     alloc: Global,
-    verdict: Option<&Verdict>,
+    verdict: Option<&CommitVerdict>,
     signatures: &[Signature],
 ) -> Result<Vec<Vote>, AllocError>
     ensures { IfOk result (λ votes. votes.items ≡ map (vote_at (option_map (λ v. v.now) verdict.entry)) (enumerate_from 0 signatures.now)) }

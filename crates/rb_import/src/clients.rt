@@ -4,13 +4,16 @@ ghost use Rattle.rb_import.specs.Events.{clients_events, stored_in};
 
 use rb_book::Record;
 use rb_import_check::Stored;
-use rb_import_merge::Seen;
+use rb_import_merge::SeenSetup;
 use rb_script_types::Observation;
 use std::alloc::AllocError;
 
 /// Adds the consensus states of each client.
 #[tactic(auto, unfolding(crate::specs::Events::clients_events))]
-pub(crate) fn push_clients(events: &mut Vec<Observation>, seen: &Seen<'_>) -> Result<(), AllocError>
+pub(crate) fn push_clients(
+    events: &mut Vec<Observation>,
+    seen: &SeenSetup<'_>,
+) -> Result<(), AllocError>
     ensures { OnOk result (events.new.items ≡ events.old.items ++ clients_events seen.now) }
 {
     for (place, records) in seen.records.iter().enumerate() {

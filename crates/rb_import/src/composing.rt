@@ -17,9 +17,9 @@ use crate::made::{MakeError, script_of_seen};
 use crate::opening::opening_of;
 use crate::shares::largest_id;
 use rb_import_check::{CheckErrorName, ImportError, SavedAnswers, Signatures};
-use rb_import_merge::{ImportErrors, Seen, seen_in};
+use rb_import_merge::{ImportErrors, SeenSetup, seen_in};
 use rb_import_notices::{Notices, notices_of};
-use rb_import_setup::Setup;
+use rb_import_setup::ImportSetup;
 use rb_script_text::{TextError, text_of_script};
 use rb_script_types::Script;
 use std::alloc::{AllocError, Global};
@@ -45,7 +45,7 @@ pub struct Composed<'a> {
 /// the most. `NoMemory` comes where a growth is refused.
 pub fn make<'a>(
     alloc: Global,
-    setup: &'a Setup,
+    setup: &'a ImportSetup,
     signatures: Signatures,
     answers: &'a SavedAnswers,
 ) -> Result<Made<'a>, ImportErrors<'a>>
@@ -65,7 +65,7 @@ pub fn make<'a>(
 /// would have more bytes than are read, that is `ScriptTooBig`, too.
 pub fn compose<'a>(
     alloc: Global,
-    setup: &'a Setup,
+    setup: &'a ImportSetup,
     signatures: Signatures,
     answers: &'a SavedAnswers,
 ) -> Result<Composed<'a>, ImportErrors<'a>>
@@ -84,9 +84,9 @@ pub fn compose<'a>(
 /// The script of what was seen, and its notices.
 fn made_of<'a>(
     alloc: Global,
-    setup: &'a Setup,
+    setup: &'a ImportSetup,
     answers: &'a SavedAnswers,
-    seen: &Seen<'a>,
+    seen: &SeenSetup<'a>,
 ) -> Result<Made<'a>, ImportErrors<'a>>
     ensures notices { IfOk result (λ made. AreNoticesOf setup.entry.now answers.entry.now seen.now made.notices) }
     ensures script { IfOk result (λ made. IsMadeOf setup.entry.now answers.entry.now seen.now made.script) }
@@ -107,9 +107,9 @@ fn made_of<'a>(
 /// The text of the script of what was seen, and its notices.
 fn composed_of<'a>(
     alloc: Global,
-    setup: &'a Setup,
+    setup: &'a ImportSetup,
     answers: &'a SavedAnswers,
-    seen: &Seen<'a>,
+    seen: &SeenSetup<'a>,
 ) -> Result<Composed<'a>, ImportErrors<'a>>
     ensures notices { IfOk result (λ script. AreNoticesOf setup.entry.now answers.entry.now seen.now script.notices) }
     ensures text { IfOk result (λ script. IsFitting setup.entry.now answers.entry.now seen.now (string_bytes script.text)) }
@@ -124,9 +124,9 @@ fn composed_of<'a>(
 /// The text of a script of what was seen, which begins with the line on signatures and with who wrote it.
 fn text_of<'a>(
     alloc: Global,
-    setup: &'a Setup,
+    setup: &'a ImportSetup,
     answers: &SavedAnswers,
-    seen: &Seen<'_>,
+    seen: &SeenSetup<'_>,
     script: &Script,
 ) -> Result<String, ImportErrors<'a>>
     requires { IsMadeOf setup.now answers.now seen.now script.now }
@@ -143,7 +143,11 @@ fn text_of<'a>(
 }
 
 /// What a script's text begins with: the line on signatures, and who wrote it.
-fn head_of(alloc: Global, answers: &SavedAnswers, seen: &Seen<'_>) -> Result<String, AllocError>
+fn head_of(
+    alloc: Global,
+    answers: &SavedAnswers,
+    seen: &SeenSetup<'_>,
+) -> Result<String, AllocError>
     ensures { IfOk result (λ head. string_bytes head ≡ opening_of answers.now seen.now ++ heading) }
 {
     let mut head = opening_of(alloc, answers, seen)?;
@@ -152,7 +156,7 @@ fn head_of(alloc: Global, answers: &SavedAnswers, seen: &Seen<'_>) -> Result<Str
 }
 
 /// That a script would be too big, told of the client that brings the most to it.
-fn too_big<'a>(alloc: Global, setup: &'a Setup, seen: &Seen<'_>) -> ImportErrors<'a>
+fn too_big<'a>(alloc: Global, setup: &'a ImportSetup, seen: &SeenSetup<'_>) -> ImportErrors<'a>
     ensures size { OfEach (IsOfSizeOf setup.entry.now seen.now) result }
     ensures told { OfEach (IsToldIn setup.entry.now) result }
 {

@@ -9,8 +9,8 @@ use crate::made::MakeError;
 use rb_base::{CarriedVotes, Fraction, Options, Ties};
 use rb_book::MAX_RECORDS;
 use rb_import_check::{SavedAnswers, SeenClient};
-use rb_import_merge::{Seen, answers_at, first_of};
-use rb_import_setup::{ClientSetup, PathSetup, Setup};
+use rb_import_merge::{SeenSetup, answers_at, first_of};
+use rb_import_setup::{ClientSetup, ImportSetup, PathSetup};
 use rb_scan::Sequence;
 use rb_script_types::{ClientConfig, Config, PathConfig, RefreshTo, Version};
 use std::alloc::Global;
@@ -18,9 +18,9 @@ use std::alloc::Global;
 /// The chains, clients and paths.
 pub(crate) fn config_of(
     alloc: Global,
-    setup: &Setup,
+    setup: &ImportSetup,
     answers: &SavedAnswers,
-    seen: &Seen<'_>,
+    seen: &SeenSetup<'_>,
 ) -> Result<Config, MakeError>
     ensures config { IfOk result (λ config. config_view config ≡ config_in setup.now answers.now seen.now) }
     ensures too_big { IsErrOf result MakeError.TooBig → ¬ HasRanges (config_in setup.now answers.now seen.now) }
@@ -37,7 +37,11 @@ pub(crate) fn config_of(
     })
 }
 
-fn clients_of(alloc: Global, setup: &Setup, seen: &Seen<'_>) -> Result<Vec<ClientConfig>, MakeError>
+fn clients_of(
+    alloc: Global,
+    setup: &ImportSetup,
+    seen: &SeenSetup<'_>,
+) -> Result<Vec<ClientConfig>, MakeError>
     ensures clients { IfOk result (λ clients. clients.items ≡ map client_in (zip setup.now.clients.items seen.now.clients.items)) }
     ensures too_big { IsErrOf result MakeError.TooBig → ¬ All HasItsRange (map client_in (zip setup.now.clients.items seen.now.clients.items)) }
 {
@@ -91,7 +95,7 @@ fn options_of(seen: &SeenClient<'_>) -> Option<Options>
 
 fn paths_of(
     alloc: Global,
-    setup: &Setup,
+    setup: &ImportSetup,
     answers: &SavedAnswers,
 ) -> Result<Vec<PathConfig>, MakeError>
     ensures paths { IfOk result (λ paths. paths.items ≡ map (path_in answers.now) (enumerate_from 0 setup.now.paths.items)) }

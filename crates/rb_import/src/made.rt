@@ -13,8 +13,8 @@ use crate::config::config_of;
 use crate::paths::push_paths;
 use crate::read::{has_room, is_read_script};
 use rb_import_check::SavedAnswers;
-use rb_import_merge::Seen;
-use rb_import_setup::{Setup, TurnSetup};
+use rb_import_merge::SeenSetup;
+use rb_import_setup::{ImportSetup, TurnSetup};
 use rb_script_read::check_work;
 use rb_script_toml::RunError;
 use rb_script_types::{Observation, Script, Turn};
@@ -55,9 +55,9 @@ impl<T: Drop> From<AllocFailed<T>> for MakeError {
 /// It is one that the reader of scripts could have given; `TooBig` where it isn't.
 pub fn script_of_seen(
     alloc: Global,
-    setup: &Setup,
+    setup: &ImportSetup,
     answers: &SavedAnswers,
-    seen: &Seen<'_>,
+    seen: &SeenSetup<'_>,
 ) -> Result<Script, MakeError>
     ensures script { IfOk result (λ script. script_view script ≡ script_in setup.now answers.now seen.now) }
     ensures form { IfOk result (λ script. IsReadScript (script_view script)) }
@@ -89,9 +89,9 @@ fn judge(alloc: Global, script: &Script) -> Result<(), MakeError>
 #[tactic(auto, unfolding(crate::specs::Scripts::script_in))]
 fn composed(
     alloc: Global,
-    setup: &Setup,
+    setup: &ImportSetup,
     answers: &SavedAnswers,
-    seen: &Seen<'_>,
+    seen: &SeenSetup<'_>,
 ) -> Result<Script, MakeError>
     ensures script { IfOk result (λ script. script_view script ≡ script_in setup.now answers.now seen.now) }
     ensures too_big { IsErrOf result MakeError.TooBig → IsTooMuch (script_in setup.now answers.now seen.now) }
@@ -101,7 +101,11 @@ fn composed(
     Ok(Script { config, turns })
 }
 
-fn turns_of(alloc: Global, setup: &Setup, seen: &Seen<'_>) -> Result<Vec<Turn>, AllocError>
+fn turns_of(
+    alloc: Global,
+    setup: &ImportSetup,
+    seen: &SeenSetup<'_>,
+) -> Result<Vec<Turn>, AllocError>
     ensures { IfOk result (λ turns. map turn_view turns.items ≡ map (turn_in setup.now seen.now) (enumerate_from 0 setup.now.turns.items)) }
 {
     let mut turns = Vec::with_capacity(alloc, setup.turns.len())?;
@@ -115,8 +119,8 @@ fn turns_of(alloc: Global, setup: &Setup, seen: &Seen<'_>) -> Result<Vec<Turn>, 
 /// The turn at a place, which has what was seen where it is the last one.
 fn turn_at(
     alloc: Global,
-    setup: &Setup,
-    seen: &Seen<'_>,
+    setup: &ImportSetup,
+    seen: &SeenSetup<'_>,
     place: usize,
     turn: &TurnSetup,
 ) -> Result<Turn, AllocError>
@@ -146,7 +150,11 @@ fn turn_with(alloc: Global, turn: &TurnSetup, events: Vec<Observation>) -> Resul
 
 /// What was seen of each chain, each client and each path.
 #[tactic(auto, using(crate::proofs::Added::added), unfolding(crate::specs::Events::events_in))]
-fn events_of(alloc: Global, setup: &Setup, seen: &Seen<'_>) -> Result<Vec<Observation>, AllocError>
+fn events_of(
+    alloc: Global,
+    setup: &ImportSetup,
+    seen: &SeenSetup<'_>,
+) -> Result<Vec<Observation>, AllocError>
     ensures { IfOk result (λ events. events.items ≡ events_in setup.now seen.now) }
 {
     let mut events = Vec::new(alloc);

@@ -7,7 +7,7 @@ ghost use Rattle.rb_import.specs.Tallies.{IsTally};
 
 use rb_import_answers::{NodeAnswer, Verdicts, plain_text};
 use rb_import_check::{Commit, Saved, SavedAnswers, has_verdicts};
-use rb_import_merge::Seen;
+use rb_import_merge::SeenSetup;
 use std::alloc::{AllocError, Global};
 
 /// The line where no answer holds verdicts.
@@ -19,7 +19,7 @@ const WARNING: &str =
 pub fn opening_of(
     alloc: Global,
     answers: &SavedAnswers,
-    seen: &Seen<'_>,
+    seen: &SeenSetup<'_>,
 ) -> Result<String, AllocError>
     ensures { IfOk result (λ line. string_bytes line ≡ opening_of answers.now seen.now) }
 {
@@ -33,7 +33,11 @@ pub fn opening_of(
 }
 
 /// The line that says who verified signatures.
-fn credited(alloc: Global, answers: &SavedAnswers, seen: &Seen<'_>) -> Result<String, AllocError>
+fn credited(
+    alloc: Global,
+    answers: &SavedAnswers,
+    seen: &SeenSetup<'_>,
+) -> Result<String, AllocError>
     ensures { IfOk result (λ line. string_bytes line ≡ credit (words_of answers.now seen.now)) }
 {
     let words = words_of(alloc, answers, seen)?;
@@ -63,7 +67,11 @@ fn credit(alloc: Global, words: &String) -> Result<String, AllocError>
 
 /// How many commits were verified, how many of their votes are good, bad and not checkable, and who verified them: as much of that
 /// as the line shows.
-fn words_of(alloc: Global, answers: &SavedAnswers, seen: &Seen<'_>) -> Result<String, AllocError>
+fn words_of(
+    alloc: Global,
+    answers: &SavedAnswers,
+    seen: &SeenSetup<'_>,
+) -> Result<String, AllocError>
     ensures { IfOk result (λ words. string_bytes words ≡ words_of answers.now seen.now) }
 {
     let tally = tally_of(seen);
@@ -102,7 +110,7 @@ struct Tally {
 }
 
 /// The tally of the commits that were seen.
-fn tally_of(seen: &Seen<'_>) -> Tally
+fn tally_of(seen: &SeenSetup<'_>) -> Tally
     ensures { IsTally (seen_commits seen.now) result }
 {
     let mut tally = Tally {

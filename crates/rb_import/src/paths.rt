@@ -4,8 +4,8 @@ ghost use Rattle.rb_import.specs.Events.{block_of, closing, events_of, height_of
 
 use rb_base::{Height, Moment};
 use rb_import_answers::{PacketEvent, PacketKind};
-use rb_import_merge::{Seen, SeenPacket, SeenPath};
-use rb_import_setup::Setup;
+use rb_import_merge::{SeenPacket, SeenPath, SeenSetup};
+use rb_import_setup::ImportSetup;
 use rb_scan::{Order, Sequence};
 use rb_script_types::{Block, BlockHeight, Observation, PathConfig};
 use std::alloc::AllocError;
@@ -14,8 +14,8 @@ use std::alloc::AllocError;
 #[tactic(auto, unfolding(crate::specs::Events::paths_events))]
 pub(crate) fn push_paths(
     events: &mut Vec<Observation>,
-    setup: &Setup,
-    seen: &Seen<'_>,
+    setup: &ImportSetup,
+    seen: &SeenSetup<'_>,
 ) -> Result<(), AllocError>
     ensures { OnOk result (events.new.items ≡ events.old.items ++ paths_events setup.now seen.now) }
 {
@@ -27,7 +27,7 @@ pub(crate) fn push_paths(
 
 fn push_path_at(
     events: &mut Vec<Observation>,
-    seen: &Seen<'_>,
+    seen: &SeenSetup<'_>,
     place: usize,
     path: &PathConfig,
 ) -> Result<(), AllocError>
@@ -42,7 +42,7 @@ fn push_path_at(
 #[tactic(auto, using(crate::proofs::Added::added), unfolding(crate::specs::Events::path_events))]
 fn push_path(
     events: &mut Vec<Observation>,
-    seen: &Seen<'_>,
+    seen: &SeenSetup<'_>,
     place: usize,
     path: &PathConfig,
     it: &SeenPath<'_>,
@@ -55,7 +55,7 @@ fn push_path(
 
 fn push_packets(
     events: &mut Vec<Observation>,
-    seen: &Seen<'_>,
+    seen: &SeenSetup<'_>,
     place: usize,
     path: &PathConfig,
     packets: &[SeenPacket<'_>],
@@ -70,7 +70,7 @@ fn push_packets(
 
 /// The event of a packet.
 fn packet_in(
-    seen: &Seen<'_>,
+    seen: &SeenSetup<'_>,
     place: usize,
     path: &PathConfig,
     packet: &SeenPacket<'_>,
@@ -134,7 +134,7 @@ fn timeout_time(nanoseconds: u64) -> Option<Moment>
 }
 
 /// The block that an event of a path's packet stands in, and its time, where a header of it was seen.
-fn block_of(seen: &Seen<'_>, path: &PathConfig, event: &PacketEvent) -> Block
+fn block_of(seen: &SeenSetup<'_>, path: &PathConfig, event: &PacketEvent) -> Block
     ensures { result ≡ block_of seen.now path.now event.now }
 {
     let height = BlockHeight::new(event.block.get()).unwrap();
@@ -156,7 +156,7 @@ fn writer_of(path: &PathConfig, kind: PacketKind) -> Option<usize>
     }
 }
 
-fn time_at(seen: &Seen<'_>, place: usize, height: Height) -> Option<Moment>
+fn time_at(seen: &SeenSetup<'_>, place: usize, height: Height) -> Option<Moment>
     ensures { result ≡ time_at seen.now place height }
 {
     seen.chains.get(place)?.block_time(height)

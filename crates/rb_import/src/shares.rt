@@ -4,8 +4,8 @@ ghost use Rattle.rb_import_merge.specs.Errors.{IsNamedIn};
 ghost use Rattle.rb_import.specs.Shares.{IsLargest, capped, chain_size, client_size, header_size, headers_size, path_size, paths_size, serves, set_size_at, sets_size, share_of, shares_of, shown, states_size, total};
 
 use rb_import_check::{Commit, SeenChain};
-use rb_import_merge::{KeptSets, Seen};
-use rb_import_setup::{ClientSetup, PathSetup, Setup};
+use rb_import_merge::{KeptSets, SeenSetup};
+use rb_import_setup::{ClientSetup, ImportSetup, PathSetup};
 use std::alloc::{AllocError, Global};
 
 /// About how many bytes a member of a set is in a script.
@@ -31,8 +31,8 @@ struct Share<'a> {
 /// where the setup has no client.
 pub fn largest_id<'a>(
     alloc: Global,
-    setup: &'a Setup,
-    seen: &Seen<'_>,
+    setup: &'a ImportSetup,
+    seen: &SeenSetup<'_>,
 ) -> Result<&'a str, AllocError>
     ensures largest { IfOk result (λ id. IsLargest setup.entry.now seen.now id.now) }
     ensures named { IfOk result (λ id. IsNamedIn setup.entry.now id.now) }
@@ -56,8 +56,8 @@ fn largest_of<'a, 's>(shares: &'s [Share<'a>]) -> Option<&'s Share<'a>>
 /// How much each client brings.
 fn shares_of<'a>(
     alloc: Global,
-    setup: &'a Setup,
-    seen: &Seen<'_>,
+    setup: &'a ImportSetup,
+    seen: &SeenSetup<'_>,
 ) -> Result<Vec<Share<'a>>, AllocError>
     ensures { IfOk result (λ shares. map shown shares.items ≡ shares_of setup.entry.now seen.now) }
 {
@@ -71,8 +71,8 @@ fn shares_of<'a>(
 /// Adds how much the client at a place brings.
 fn add_share<'a>(
     alloc: Global,
-    setup: &Setup,
-    seen: &Seen<'_>,
+    setup: &ImportSetup,
+    seen: &SeenSetup<'_>,
     place: usize,
     client: &'a ClientSetup,
     shares: &mut Vec<Share<'a>>,
@@ -89,8 +89,8 @@ fn add_share<'a>(
 /// tracks, and the packets of the paths that it serves.
 fn client_size(
     alloc: Global,
-    setup: &Setup,
-    seen: &Seen<'_>,
+    setup: &ImportSetup,
+    seen: &SeenSetup<'_>,
     place: usize,
     client: &ClientSetup,
 ) -> Result<u64, AllocError>
@@ -124,7 +124,7 @@ fn total(sizes: &[u64]) -> u64
 }
 
 /// The size of the consensus states of the client at a place.
-fn states_size(seen: &Seen<'_>, place: usize) -> u64
+fn states_size(seen: &SeenSetup<'_>, place: usize) -> u64
     ensures { result ≡ states_size seen.now place }
 {
     match seen.records.get(place) {
@@ -134,7 +134,7 @@ fn states_size(seen: &Seen<'_>, place: usize) -> u64
 }
 
 /// The size of the sets and the headers of the chain at a place.
-fn chain_size(alloc: Global, seen: &Seen<'_>, place: usize) -> Result<u64, AllocError>
+fn chain_size(alloc: Global, seen: &SeenSetup<'_>, place: usize) -> Result<u64, AllocError>
     ensures { IfOk result (λ size. size ≡ chain_size seen.now place) }
 {
     match (seen.chains.get(place), seen.sets.get(place)) {
@@ -191,8 +191,8 @@ fn header_size(commit: &Commit<'_>) -> u64
 /// The size of the packets of the paths that the client at a place serves.
 fn paths_size(
     alloc: Global,
-    setup: &Setup,
-    seen: &Seen<'_>,
+    setup: &ImportSetup,
+    seen: &SeenSetup<'_>,
     place: usize,
 ) -> Result<u64, AllocError>
     ensures { IfOk result (λ size. size ≡ paths_size setup.now seen.now place) }
@@ -205,7 +205,7 @@ fn paths_size(
 }
 
 /// The size of the packets of the path at a number, if the client at a place serves it.
-fn path_size(seen: &Seen<'_>, place: usize, number: usize, path: &PathSetup) -> u64
+fn path_size(seen: &SeenSetup<'_>, place: usize, number: usize, path: &PathSetup) -> u64
     ensures { result ≡ path_size seen.now place (number, path.now) }
 {
     match seen.paths.get(number) {

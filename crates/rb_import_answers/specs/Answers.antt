@@ -6,7 +6,7 @@ use Rattle.serde_json.specs.Find.{get, as_null}
 use Rattle.serde_json.specs.Read.{read as read_text}
 use Rattle.rb_import_answers.specs.declared.answer.NodeAnswer.{NodeAnswer}
 use Rattle.rb_import_answers.specs.declared.answer.NodeAnswer.TheVariants as answers
-use Rattle.rb_import_answers.specs.declared.client.ClientState.{ClientState}
+use Rattle.rb_import_answers.specs.declared.client.TendermintClientState.{TendermintClientState}
 use Rattle.rb_import_json.specs.declared.error.FieldError.{FieldError}
 use Rattle.rb_import_json.specs.declared.error.FieldErrorName.{FieldErrorName}
 use Rattle.rb_import_json.specs.declared.error.FieldErrorName.TheVariants.{TooBig, TooManyValues, UnknownShape, NodeError}
@@ -22,17 +22,17 @@ use Rattle.rb_import_answers.specs.Pending.{Pending, is_pending, pending, pendin
 use Rattle.rb_import_answers.specs.Queries.{query_of}
 use Rattle.rb_import_answers.specs.Unread.{unread}
 use Rattle.rb_import_answers.specs.Verdicts.{Verdicts, verdicts, verdicts_view}
-use Rattle.rb_import_answers.specs.declared.query.Query.{Query}
+use Rattle.rb_import_answers.specs.declared.query.OtherQuery.{OtherQuery}
 
 pub data Told : Type 0 where
   commit : Signed → Told
   validators : Page → Told
-  judging : ClientState → Told
+  judging : TendermintClientState → Told
   stored : States → Told
   transactions : Search → Told
   packets : Pending → Told
   verified : Verdicts → Told
-  other : Query → Told
+  other : OtherQuery → Told
 
 abbrev pub answer_view : NodeAnswer → Told
 answer_view (answers.Commit header) = commit (signed_view header)
@@ -52,7 +52,7 @@ abbrev pub has : List ℕ → Data → Bool
 has name d = is_some (get name d)
 
 -- an answer to another query, which isn't needed
-abbrev pub if_query : Option Query → Result Told FieldError
+abbrev pub if_query : Option OtherQuery → Result Told FieldError
 if_query (Some query) = Ok (other query)
 if_query None = Err (whole UnknownShape)
 
@@ -125,7 +125,7 @@ is_verified _ = false
 
 -- what an answer tells in the file of a name: verdicts count only in `verdicts.json` (own choice), since a node can answer with their text, too
 abbrev pub told_in : List ℕ → Told → Told
-told_in name t = if is_verified t && not (bytes_eq name verdicts_file) then other Query.Verdicts else t
+told_in name t = if is_verified t && not (bytes_eq name verdicts_file) then other OtherQuery.Verdicts else t
 
 -- what an answer tells without the votes of a commit, which messages alone need
 abbrev pub without_votes : Told → Told

@@ -4,7 +4,7 @@ use Rattle.std.specs.Result.{result_ok}
 use Rattle.std.specs.Str.{bytes_eq}
 use Rattle.serde_json.specs.Data.{Data, Items, no_items, item}
 use Rattle.serde_json.specs.Find.{as_null, as_str}
-use Rattle.rb_import_answers.specs.declared.client.ClientState.{ClientState}
+use Rattle.rb_import_answers.specs.declared.client.TendermintClientState.{TendermintClientState}
 use Rattle.rb_import_answers.specs.declared.client.ConsensusPage.{ConsensusPage}
 use Rattle.rb_import_answers.specs.declared.client.ConsensusState.{ConsensusState}
 use Rattle.rb_import_answers.specs.declared.client.TrustLevel.{TrustLevel}
@@ -69,7 +69,7 @@ drift state = do
   t ← text Key.MaxClockDrift state
   or_flaw (flaw_at state Key.MaxClockDrift BadDuration) (option_and_then in_script (nanoseconds_of t))
 
-unfoldable pub client_state : Object → Result ClientState FieldError
+unfoldable pub client_state : Object → Result TendermintClientState FieldError
 client_state answer = do
   state ← object Key.ClientState Segment.ClientState answer
   _ ← tendermint state

@@ -2,7 +2,7 @@
 use Rattle.std.specs.Prelude.{ℕ, ◌/◌, ◌%◌, ◌^◌, List, [], ◌∷◌, ◌++◌}
 use Rattle.rb_merkle.specs.TreeHash.{tree_root}
 use Rattle.rb_import_answers.specs.declared.header_fields.BlockId.{BlockId as CodeBlockId}
-use Rattle.rb_import_answers.specs.declared.header_fields.Header.{Header as CodeHeader}
+use Rattle.rb_import_answers.specs.declared.header_fields.BlockHeader.{BlockHeader as CodeBlockHeader}
 use Rattle.rb_import_answers.specs.Encoding.{number_field, counted, bytes_field}
 
 -- a block's hash, and how many parts it was sent in, with their hash (CometBFT, `BlockID`)
@@ -12,7 +12,7 @@ pub record BlockId : Type 0 where
   pub parts_hash : List ℕ
 
 -- a header's fields, the time in nanoseconds since 1970
-pub record Header : Type 0 where
+pub record BlockHeader : Type 0 where
   pub block_version : ℕ
   pub app_version : ℕ
   pub chain : List ℕ
@@ -32,7 +32,7 @@ pub record Header : Type 0 where
 abbrev pub block_id_view : CodeBlockId → BlockId
 block_id_view b = record { hash = b.hash.items; parts_total = b.parts_total; parts_hash = b.parts_hash.items }
 
-abbrev pub header_view : CodeHeader → Header
+abbrev pub header_view : CodeBlockHeader → BlockHeader
 header_view h = record {
   block_version = h.block_version;
   app_version = h.app_version;
@@ -52,7 +52,7 @@ header_view h = record {
 }
 
 -- the versions of the block protocol and of the application
-unfoldable pub version_bytes : Header → List ℕ
+unfoldable pub version_bytes : BlockHeader → List ℕ
 version_bytes h = number_field 0x08 h.block_version ++ number_field 0x10 h.app_version
 
 -- seconds, and nanoseconds beside them
@@ -64,7 +64,7 @@ unfoldable pub block_id_bytes : BlockId → List ℕ
 block_id_bytes b = bytes_field 0x0a b.hash ++ counted 0x12 (number_field 0x08 b.parts_total ++ bytes_field 0x12 b.parts_hash)
 
 -- the fourteen fields in their encoding: a text, a number or bytes alone is field 1 of a buffer
-abbrev pub encoded : Header → List (List ℕ)
+abbrev pub encoded : BlockHeader → List (List ℕ)
 encoded h =
     version_bytes h ∷ bytes_field 0x0a h.chain ∷ number_field 0x08 h.height ∷ time_bytes h.time ∷ block_id_bytes h.last_block
     ∷ bytes_field 0x0a h.last_commit_hash ∷ bytes_field 0x0a h.data_hash ∷ bytes_field 0x0a h.validators_hash
@@ -72,5 +72,5 @@ encoded h =
     ∷ bytes_field 0x0a h.last_results_hash ∷ bytes_field 0x0a h.evidence_hash ∷ bytes_field 0x0a h.proposer_address ∷ []
 
 -- their tree hash
-unfoldable pub header_hash : Header → List ℕ
+unfoldable pub header_hash : BlockHeader → List ℕ
 header_hash h = tree_root (encoded h)

@@ -15,7 +15,7 @@ use Rattle.rb_import_json.specs.declared.field_path.Key.{Key}
 use Rattle.rb_import_json.specs.declared.field_path.Segment.{Segment}
 use Rattle.rb_import_json.specs.FieldErrors.{◌>>=◌, must}
 use Rattle.rb_import_json.specs.Fields.{Object, flaw_at, object, inner, items, number_or_zero, count, height, chain, time, hex, bytes, base64, each}
-use Rattle.rb_import_answers.specs.HeaderHash.{BlockId, Header as HeaderFields, header_hash, header_view as fields_view}
+use Rattle.rb_import_answers.specs.HeaderHash.{BlockId, BlockHeader, header_hash, header_view as fields_view}
 use Rattle.rb_import_answers.specs.Roots.{root_of}
 use Rattle.rb_import_answers.specs.Votes.{flag}
 
@@ -37,7 +37,7 @@ last_block o = do
   Ok (record { hash = hash; parts_total = total; parts_hash = parts_hash })
 
 -- all fields of a header (CometBFT, `Header`)
-unfoldable pub fields : Object → Result HeaderFields FieldError
+unfoldable pub fields : Object → Result BlockHeader FieldError
 fields o = do
   id ← chain Key.ChainId o
   at ← height Key.Height o
@@ -85,7 +85,7 @@ pub record Header : Type 0 where
 abbrev pub header_view : SignedHeader → Header
 header_view h = record { chain = h.chain; height = h.height; time = h.time; root = h.root; set = h.set; next = h.next; hash = h.hash }
 
-abbrev pub header_of : HeaderFields → Header
+abbrev pub header_of : BlockHeader → Header
 header_of f = record {
   chain = f.chain;
   height = f.height;
@@ -153,7 +153,7 @@ canonical result = or_true (option_and_then as_bool (get (codes "canonical") res
 -- 20 bytes; the commit's round, its block, what a script needs of its votes, and these, in order, and whether it is canonical
 pub record Signed : Type 0 where
   pub header : Header
-  pub fields : HeaderFields
+  pub fields : BlockHeader
   pub proposer : List ℕ
   pub round : ℕ
   pub block : BlockId

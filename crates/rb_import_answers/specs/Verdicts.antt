@@ -2,7 +2,7 @@
 use Rattle.std.specs.Prelude.{ℕ, ◌+◌, ◌==◌, ◌&&◌, nat_le, nat_lt, if◌then◌else◌, List, [], ◌∷◌, ◌++◌, map, Option, Some, None, option_and_then, Result, Ok, ⊤, string_bytes}
 use Rattle.serde_json.specs.Data.{Data, Items, no_items, item}
 use Rattle.serde_json.specs.Find.{as_number, as_u64}
-use Rattle.rb_import_answers.specs.declared.verdicts.Verdict.{Verdict as CodeVerdict}
+use Rattle.rb_import_answers.specs.declared.verdicts.CommitVerdict.{CommitVerdict as CodeCommitVerdict}
 use Rattle.rb_import_answers.specs.declared.verdicts.Verdicts.{Verdicts as CodeVerdicts}
 use Rattle.rb_import_json.specs.declared.error.FieldError.{FieldError}
 use Rattle.rb_import_json.specs.declared.error.FieldErrorName.TheVariants.{BadPlace, BadVersion}
@@ -13,14 +13,14 @@ use Rattle.rb_import_json.specs.Fields.{Object, flaw_at, object, items, text, co
 
 -- the verdict on a commit: the SHA-256 of its file, how many votes it has and how many of them are valid, and the places of bad votes and of
 -- those that nobody could check
-pub record Verdict : Type 0 where
+pub record CommitVerdict : Type 0 where
   pub digest : List ℕ
   pub votes : ℕ
   pub good : ℕ
   pub bad : List ℕ
   pub unchecked : List ℕ
 
-abbrev pub verdict_view : CodeVerdict → Verdict
+abbrev pub verdict_view : CodeCommitVerdict → CommitVerdict
 verdict_view v = record { digest = v.digest; votes = v.votes; good = v.good; bad = v.bad.items; unchecked = v.unchecked.items }
 
 -- a place among so many votes that isn't below the least one
@@ -38,7 +38,7 @@ rising o key votes least before (item d ds) = place o key votes least d >>= λ n
 unfoldable pub places : Key → ℕ → Object → Result (List ℕ) FieldError
 places key votes o = items key o >>= λ ds. rising o key votes 0 [] ds
 
-unfoldable pub verdict : Object → Result Verdict FieldError
+unfoldable pub verdict : Object → Result CommitVerdict FieldError
 verdict o = do
   digest ← hex 32 Key.Sha256 o
   votes ← count Key.Votes o
@@ -48,7 +48,7 @@ verdict o = do
   Ok (record { digest = digest; votes = votes; good = good; bad = bad; unchecked = unchecked })
 
 -- the verdicts of an array, after those before them
-abbrev pub all_verdicts : ℕ → List Verdict → Items → Result (List Verdict) FieldError
+abbrev pub all_verdicts : ℕ → List CommitVerdict → Items → Result (List CommitVerdict) FieldError
 all_verdicts index before no_items = Ok before
 all_verdicts index before (item d ds) =
     verdict (record { value = d; part = Segment.Verdict; index = Some index }) >>= λ v. all_verdicts (index + 1) (before ++ v ∷ []) ds
@@ -57,7 +57,7 @@ all_verdicts index before (item d ds) =
 pub record Verdicts : Type 0 where
   pub chain : List ℕ
   pub verifier : List ℕ
-  pub commits : List Verdict
+  pub commits : List CommitVerdict
 
 abbrev pub verdicts_view : CodeVerdicts → Verdicts
 verdicts_view v = record { chain = v.chain; verifier = string_bytes v.verifier; commits = map verdict_view v.commits.items }

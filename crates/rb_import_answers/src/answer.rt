@@ -6,11 +6,13 @@ ghost use Rattle.rb_import_json.specs.Fields.{object_view};
 ghost use Rattle.rb_import_answers.specs.Answers.{answer_view, begins_object, is_error, is_verified, json, known, marks_value, object_count, told, told_in, value_count, whole, without_votes};
 ghost use Rattle.rb_import_answers.specs.Unread.{unread};
 
-use crate::client::{ClientState, ConsensusPage, read_client_state, read_consensus_states};
+use crate::client::{
+    ConsensusPage, TendermintClientState, read_client_state, read_consensus_states,
+};
 use crate::commit::{SignedHeader, read_commit};
 use crate::packets::PacketPage;
 use crate::pending::{Pending, is_pending, read_pending};
-use crate::query::{Query, query_of};
+use crate::query::{OtherQuery, query_of};
 use crate::transactions::read_transactions;
 use crate::unread::unread;
 use crate::validators::{ValidatorsPage, read_page};
@@ -39,7 +41,7 @@ pub enum NodeAnswer {
     /// To `/validators`.
     Validators(ValidatorsPage),
     /// To `client_states/ID`.
-    ClientState(ClientState),
+    ClientState(TendermintClientState),
     /// To `consensus_states/ID`.
     ConsensusStates(ConsensusPage),
     /// To `/tx_search`.
@@ -49,7 +51,7 @@ pub enum NodeAnswer {
     /// No node's answer: verdicts on the signatures of commits.
     Verdicts(Verdicts),
     /// To another query, which isn't needed.
-    Other(Query),
+    Other(OtherQuery),
 }
 
 impl NodeAnswer {
@@ -59,7 +61,7 @@ impl NodeAnswer {
         ensures { answer_view result ≡ told_in name.now (answer_view self) }
     {
         if is_verdicts(&self) && name != VERDICTS_FILE {
-            NodeAnswer::Other(Query::Verdicts)
+            NodeAnswer::Other(OtherQuery::Verdicts)
         } else {
             self
         }

@@ -25,7 +25,7 @@ pub struct TrustLevel {
 /// number, the height of the latest record that it has stored, its trust level, its trusting period, and the clock drift in
 /// nanoseconds.
 #[derive(Clone, Copy)]
-pub struct ClientState {
+pub struct TendermintClientState {
     pub chain: ChainId,
     pub revision: u64,
     pub latest: u64,
@@ -55,7 +55,7 @@ pub struct ConsensusPage {
 
 /// Reads an answer of `client_states/ID`.
 #[tactic(auto, using(rb_import_json::proofs::Steps::steps), unfolding(crate::specs::Clients::client_state))]
-pub(crate) fn read_client_state(answer: &Object<'_>) -> Result<ClientState, FieldError>
+pub(crate) fn read_client_state(answer: &Object<'_>) -> Result<TendermintClientState, FieldError>
     ensures { Reads (λ s. s) result (client_state (object_view answer.now)) }
 {
     let state = answer.object(Key::ClientState, Segment::ClientState)?;
@@ -67,7 +67,7 @@ pub(crate) fn read_client_state(answer: &Object<'_>) -> Result<ClientState, Fiel
     let trust = read_trust(&state)?;
     let period = read_period(&state)?;
     let drift = read_drift(&state)?;
-    Ok(ClientState {
+    Ok(TendermintClientState {
         chain,
         revision,
         latest,

@@ -7,7 +7,7 @@ ghost use Rattle.rb_import_answers.specs.Votes.{flag};
 ghost use Rattle.rb_import_answers.specs.Headers.{block, block_view, canonical, cast, of_height, round, signature_of, signed, signed_view, vote};
 
 use crate::header::read_header_fields;
-use crate::header_fields::Header;
+use crate::header_fields::BlockHeader;
 use crate::root::root_of;
 use rb_base::{ChainId, Height, Moment};
 use rb_import_json::{AnswerError, FieldError, FieldErrorName, Key, Object, Segment};
@@ -95,7 +95,7 @@ pub struct SignedHeader {
     pub block: [u8; 32],
     pub signatures: Vec<Signature>,
     pub is_canonical: bool,
-    pub fields: Header,
+    pub fields: BlockHeader,
     pub proposer: [u8; 20],
     pub round: u64,
     pub parts_total: u64,

@@ -5,13 +5,16 @@ ghost use Rattle.rb_import_json.specs.FieldErrors.{Reads, Gives};
 ghost use Rattle.rb_import_json.specs.Fields.{object_view};
 ghost use Rattle.rb_import_answers.specs.Headers.{fields, last_block, versions};
 
-use crate::header_fields::{BlockId, Header};
+use crate::header_fields::{BlockHeader, BlockId};
 use rb_import_json::{AnswerError, FieldError, Key, Object, Segment};
 use std::alloc::Global;
 
 /// Reads the fields of a header, of which the hashes but those of its sets, and the proposer's address, may be empty.
 #[tactic(auto, using(rb_import_json::proofs::Steps::steps), unfolding(crate::specs::Headers::fields))]
-pub(crate) fn read_header_fields(alloc: Global, head: &Object<'_>) -> Result<Header, AnswerError>
+pub(crate) fn read_header_fields(
+    alloc: Global,
+    head: &Object<'_>,
+) -> Result<BlockHeader, AnswerError>
     ensures { Gives (λ h. header_view h) result (fields (object_view head.now)) }
 {
     let chain = head.chain(Key::ChainId)?;
@@ -28,7 +31,7 @@ pub(crate) fn read_header_fields(alloc: Global, head: &Object<'_>) -> Result<Hea
     let last_results_hash = head.bytes(alloc, Key::LastResultsHash)?;
     let evidence_hash = head.bytes(alloc, Key::EvidenceHash)?;
     let proposer_address = head.bytes(alloc, Key::ProposerAddress)?;
-    Ok(Header {
+    Ok(BlockHeader {
         block_version,
         app_version,
         chain,

@@ -24,7 +24,7 @@ pub struct BlockId {
 
 /// A header's fields (CometBFT, `Header`).
 #[derive(Drop)]
-pub struct Header {
+pub struct BlockHeader {
     pub block_version: u64,
     pub app_version: u64,
     pub chain: ChainId,
@@ -44,7 +44,7 @@ pub struct Header {
 
 /// The header's hash: the tree hash of its fourteen fields, each in its encoding.
 #[tactic(auto, unfolding(crate::specs::HeaderHash::header_hash))]
-pub fn header_hash(alloc: Global, header: &Header) -> Result<[u8; 32], AllocError>
+pub fn header_hash(alloc: Global, header: &BlockHeader) -> Result<[u8; 32], AllocError>
     ensures { IfOk result (λ hash. hash ≡ header_hash (header_view header.now)) }
 {
     let version = encode_version(alloc, header)?;
@@ -81,7 +81,7 @@ pub fn header_hash(alloc: Global, header: &Header) -> Result<[u8; 32], AllocErro
 
 /// The buffer of the versions.
 #[tactic(auto, unfolding(crate::specs::HeaderHash::version_bytes))]
-fn encode_version(alloc: Global, header: &Header) -> Result<Vec<u8>, AllocError>
+fn encode_version(alloc: Global, header: &BlockHeader) -> Result<Vec<u8>, AllocError>
     ensures { IfOk result (λ out. out.items ≡ version_bytes (header_view header.now)) }
 {
     two_numbers(alloc, header.block_version, header.app_version)

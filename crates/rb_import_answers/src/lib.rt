@@ -26,14 +26,14 @@ mod validators;
 mod verdicts;
 
 pub use answer::{MAX_ANSWER_BYTES, NodeAnswer, read_answer};
-pub use client::{ClientState, ConsensusPage, ConsensusState, TrustLevel};
+pub use client::{ConsensusPage, ConsensusState, TendermintClientState, TrustLevel};
 pub use commit::{BlockIdFlag, Cast, CommitVote, Signature, SignedHeader};
-pub use header_fields::{BlockId, Header, HeaderBytes, header_hash};
+pub use header_fields::{BlockHeader, BlockId, HeaderBytes, header_hash};
 pub use packets::{PacketEvent, PacketKind, PacketPage, RevisionHeight};
 pub use pending::{Pending, SequencePage};
-pub use query::Query;
+pub use query::OtherQuery;
 pub use revision::revision_of;
 pub use said::{plain_text, said_in, type_in};
 pub use status::NodeStatus;
 pub use validators::ValidatorsPage;
-pub use verdicts::{Verdict, Verdicts};
+pub use verdicts::{CommitVerdict, Verdicts};

@@ -19,7 +19,7 @@ pub enum PacketKind {
 }
 
 /// A height with the number of its revision; 0 and 0 is none (ICS 2).
-#[derive(Clone, Copy)]
+#[derive(Clone, Copy, Debug)]
 pub struct RevisionHeight {
     pub revision: u64,
     pub height: u64,

@@ -8,7 +8,7 @@ use rb_import_json::{Key, Object};
 
 /// A query of CometBFT's RPC or of ibc-go's REST gateway whose answers aren't needed.
 #[derive(Clone, Copy)]
-pub enum Query {
+pub enum OtherQuery {
     /// With the node's status, where it can be read.
     Status(Option<NodeStatus>),
     BlockResults,
@@ -23,19 +23,19 @@ pub enum Query {
     Verdicts,
 }
 
-impl Query {
+impl OtherQuery {
     /// All of these.
-    pub const ALL: [Query; 10] = [
-        Query::Status(None),
-        Query::BlockResults,
-        Query::Blockchain,
-        Query::Block,
-        Query::Header,
-        Query::Transaction,
-        Query::ConsensusStateHeights,
-        Query::ConsensusState,
-        Query::ClientStatus,
-        Query::Verdicts,
+    pub const ALL: [OtherQuery; 10] = [
+        OtherQuery::Status(None),
+        OtherQuery::BlockResults,
+        OtherQuery::Blockchain,
+        OtherQuery::Block,
+        OtherQuery::Header,
+        OtherQuery::Transaction,
+        OtherQuery::ConsensusStateHeights,
+        OtherQuery::ConsensusState,
+        OtherQuery::ClientStatus,
+        OtherQuery::Verdicts,
     ];
 
     /// What it asks for, as its URL says.
@@ -43,52 +43,52 @@ impl Query {
         ensures { result.now ≡ query_path self }
     {
         match self {
-            Query::Status(_) => "/status",
-            Query::BlockResults => "/block_results",
-            Query::Blockchain => "/blockchain",
-            Query::Block => "/block",
-            Query::Header => "/header",
-            Query::Transaction => "/tx",
-            Query::ConsensusStateHeights => "consensus_states/ID/heights",
-            Query::ConsensusState => "consensus_states/ID/revision/R/height/H",
-            Query::ClientStatus => "client_status/ID",
-            Query::Verdicts => "verdicts (they count only in verdicts.json)",
+            OtherQuery::Status(_) => "/status",
+            OtherQuery::BlockResults => "/block_results",
+            OtherQuery::Blockchain => "/blockchain",
+            OtherQuery::Block => "/block",
+            OtherQuery::Header => "/header",
+            OtherQuery::Transaction => "/tx",
+            OtherQuery::ConsensusStateHeights => "consensus_states/ID/heights",
+            OtherQuery::ConsensusState => "consensus_states/ID/revision/R/height/H",
+            OtherQuery::ClientStatus => "client_status/ID",
+            OtherQuery::Verdicts => "verdicts (they count only in verdicts.json)",
         }
     }
 }
 
 /// The query that an answer is to, known by one of its members.
 #[tactic(auto, unfolding(crate::specs::Queries::query_of))]
-pub(crate) fn query_of(answer: &Object<'_>) -> Option<Query>
+pub(crate) fn query_of(answer: &Object<'_>) -> Option<OtherQuery>
     ensures { result ≡ query_of (object_view answer.now) }
 {
     if answer.has(Key::SyncInfo) {
-        Some(Query::Status(status_of(answer.value)))
+        Some(OtherQuery::Status(status_of(answer.value)))
     } else if answer.has(Key::TxsResults) {
-        Some(Query::BlockResults)
+        Some(OtherQuery::BlockResults)
     } else if answer.has(Key::BlockMetas) {
-        Some(Query::Blockchain)
+        Some(OtherQuery::Blockchain)
     } else if answer.has(Key::Block) {
-        Some(Query::Block)
+        Some(OtherQuery::Block)
     } else if answer.has(Key::Header) {
-        Some(Query::Header)
+        Some(OtherQuery::Header)
     } else if answer.has(Key::TxResult) {
-        Some(Query::Transaction)
+        Some(OtherQuery::Transaction)
     } else {
         query_of_gateway(answer)
     }
 }
 
 /// The query of the gateway that an answer is to.
-fn query_of_gateway(answer: &Object<'_>) -> Option<Query>
+fn query_of_gateway(answer: &Object<'_>) -> Option<OtherQuery>
     ensures { result ≡ query_of_gateway (object_view answer.now) }
 {
     if answer.has(Key::ConsensusStateHeights) {
-        Some(Query::ConsensusStateHeights)
+        Some(OtherQuery::ConsensusStateHeights)
     } else if answer.has(Key::ConsensusState) {
-        Some(Query::ConsensusState)
+        Some(OtherQuery::ConsensusState)
     } else if answer.has(Key::Status) {
-        Some(Query::ClientStatus)
+        Some(OtherQuery::ClientStatus)
     } else {
         None
     }

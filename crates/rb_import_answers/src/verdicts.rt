@@ -17,7 +17,7 @@ const VERSION: u64 = 1;
 /// many of these are valid, and the places of those that aren't and of those that nobody could check, from 0 on and
 /// rising.
 #[derive(Debug, Drop)]
-pub struct Verdict {
+pub struct CommitVerdict {
     pub digest: [u8; 32],
     pub votes: u64,
     pub good: u64,
@@ -30,7 +30,7 @@ pub struct Verdict {
 pub struct Verdicts {
     pub chain: ChainId,
     pub verifier: String,
-    pub commits: Vec<Verdict>,
+    pub commits: Vec<CommitVerdict>,
 }
 
 /// Reads verdicts.
@@ -63,7 +63,7 @@ fn judge_version(all: &Object<'_>) -> Result<(), FieldError>
 }
 
 #[tactic(auto, using(rb_import_json::proofs::Steps::steps))]
-fn read_all(alloc: Global, items: &[Value]) -> Result<Vec<Verdict>, AnswerError>
+fn read_all(alloc: Global, items: &[Value]) -> Result<Vec<CommitVerdict>, AnswerError>
     ensures { Gives (λ v. map verdict_view v.items) result (all_verdicts 0 [] (items_view items.now)) }
 {
     let mut all = Vec::new(alloc);
@@ -75,7 +75,7 @@ fn read_all(alloc: Global, items: &[Value]) -> Result<Vec<Verdict>, AnswerError>
 }
 
 #[tactic(auto, using(rb_import_json::proofs::Steps::steps), unfolding(crate::specs::Verdicts::verdict))]
-fn read_verdict(alloc: Global, entry: &Object<'_>) -> Result<Verdict, AnswerError>
+fn read_verdict(alloc: Global, entry: &Object<'_>) -> Result<CommitVerdict, AnswerError>
     ensures { Gives (λ v. verdict_view v) result (verdict (object_view entry.now)) }
 {
     let digest = entry.hash(Key::Sha256)?;
@@ -83,7 +83,7 @@ fn read_verdict(alloc: Global, entry: &Object<'_>) -> Result<Verdict, AnswerErro
     let good = entry.count(Key::Good)?;
     let bad = read_places(alloc, entry, Key::Bad, votes)?;
     let unchecked = read_places(alloc, entry, Key::Unchecked, votes)?;
-    Ok(Verdict {
+    Ok(CommitVerdict {
         digest,
         votes,
         good,

@@ -12,7 +12,7 @@ use Rattle.std.proofs.lemmas.List.Sorted.{sum_by-IsPermutation, Contains-permuta
 use Rattle.rb_import_answers.specs.declared.answer.NodeAnswer.{NodeAnswer}
 use Rattle.rb_import_answers.specs.declared.answer.NodeAnswer.TheVariants as answers
 use Rattle.rb_import_answers.specs.declared.commit.SignedHeader.{SignedHeader}
-use Rattle.rb_import_answers.specs.declared.query.Query.{Query}
+use Rattle.rb_import_answers.specs.declared.query.OtherQuery.{OtherQuery}
 use Rattle.rb_import_answers.specs.declared.validators.ValidatorsPage.{ValidatorsPage}
 use Rattle.rb_import_answers.specs.declared.verdicts.Verdicts.{Verdicts}
 use Rattle.rb_import_check.specs.declared.chain.Commit.{Commit}
@@ -31,7 +31,7 @@ use Rattle.rb_import_check.proofs.Sorting.{taken}
 -- ---- what belongs elsewhere
 
 pub is_elsewhere : (a : NodeAnswer) → ((header : SignedHeader) → a ≡ answers.Commit header → ⊥) → ((page : ValidatorsPage) → a ≡ answers.Validators page → ⊥)
-    → ((v : Verdicts) → a ≡ answers.Verdicts v → ⊥) → ((query : Query) → a ≡ answers.Other query → ⊥) → is_of_chain a ≡ false
+    → ((v : Verdicts) → a ≡ answers.Verdicts v → ⊥) → ((query : OtherQuery) → a ≡ answers.Other query → ⊥) → is_of_chain a ≡ false
 is_elsewhere (answers.Commit header) first second third fourth = absurd (first header refl)
 is_elsewhere (answers.Validators page) first second third fourth = absurd (second page refl)
 is_elsewhere (answers.ClientState state) first second third fourth = refl

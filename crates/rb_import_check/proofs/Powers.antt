@@ -7,14 +7,14 @@ use Rattle.std.proofs.lemmas.List.Sums.{sum_by-append, sum_by-cons}
 use Rattle.rb_valset.specs.Validator.{Member}
 use Rattle.rb_valset.specs.ValidatorSet.{total_of}
 use Rattle.rb_import_answers.specs.declared.commit.Signature.{Signature}
-use Rattle.rb_import_answers.specs.declared.verdicts.Verdict.{Verdict}
+use Rattle.rb_import_answers.specs.declared.verdicts.CommitVerdict.{CommitVerdict}
 use Rattle.rb_import_check.specs.declared.signed.Signatures.{Signatures}
 use Rattle.rb_import_check.specs.Signed.{counts, counts_at, signed_power}
 
 abbrev power : Member → ℕ
 power m = m.power
 
-module _ (signatures : Signatures) (verdict : Option Verdict) where
+module _ (signatures : Signatures) (verdict : Option CommitVerdict) where
   abbrev Voter : Type 0
   Voter = Member × (ℕ × Signature)
 

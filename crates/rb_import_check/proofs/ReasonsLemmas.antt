@@ -11,10 +11,10 @@ use Rattle.std.proofs.lemmas.List.Sorted.{sum_by-IsPermutation, Contains-permuta
 use Rattle.rb_import_answers.specs.Revisions.{IsRevision, IsNumbered, at_last_dash}
 use Rattle.rb_import_answers.specs.declared.answer.NodeAnswer.{NodeAnswer}
 use Rattle.rb_import_answers.specs.declared.answer.NodeAnswer.TheVariants as answers
-use Rattle.rb_import_answers.specs.declared.client.ClientState.{ClientState}
+use Rattle.rb_import_answers.specs.declared.client.TendermintClientState.{TendermintClientState}
 use Rattle.rb_import_answers.specs.declared.client.ConsensusPage.{ConsensusPage}
 use Rattle.rb_import_answers.specs.declared.client.ConsensusState.{ConsensusState}
-use Rattle.rb_import_answers.specs.declared.query.Query.{Query}
+use Rattle.rb_import_answers.specs.declared.query.OtherQuery.{OtherQuery}
 use Rattle.rb_import_setup.specs.declared.setup.ClientSetup.{ClientSetup}
 use Rattle.rb_import_check.specs.declared.client.Stored.{Stored}
 use Rattle.rb_import_check.specs.declared.error.CheckError.{CheckError}
@@ -66,8 +66,8 @@ any_one P f xs i x a small is there p = any_in P f xs i x small (sym is) (subst 
 
 -- ---- what belongs elsewhere
 
-pub is_foreign : (a : NodeAnswer) → ((state : ClientState) → a ≡ answers.ClientState state → ⊥) → ((page : ConsensusPage) → a ≡ answers.ConsensusStates page → ⊥)
-    → ((query : Query) → a ≡ answers.Other query → ⊥) → is_of_client a ≡ false
+pub is_foreign : (a : NodeAnswer) → ((state : TendermintClientState) → a ≡ answers.ClientState state → ⊥) → ((page : ConsensusPage) → a ≡ answers.ConsensusStates page → ⊥)
+    → ((query : OtherQuery) → a ≡ answers.Other query → ⊥) → is_of_client a ≡ false
 is_foreign (answers.Commit header) first second third = refl
 is_foreign (answers.Validators page) first second third = refl
 is_foreign (answers.ClientState state) first second third = absurd (first state refl)
@@ -79,14 +79,14 @@ is_foreign (answers.Other query) first second third = absurd (third query refl)
 
 -- ---- what the client's states have
 
-pub other_chain : (tracked : List ℕ) (saved : List Saved) (i : ℕ) (s : Saved) (x : ClientState) → i < length saved → s ≡ get_or saved i s → client_states_in s.answer ≡ x ∷ []
+pub other_chain : (tracked : List ℕ) (saved : List Saved) (i : ℕ) (s : Saved) (x : TendermintClientState) → i < length saved → s ≡ get_or saved i s → client_states_in s.answer ≡ x ∷ []
     → x.chain ≢ tracked → Any (λ state. state.chain ≢ tracked) (client_states_of saved)
-other_chain tracked saved i s x small is there other = any_one (λ (state : ClientState). state.chain ≢ tracked) (λ (t : Saved). client_states_in t.answer) saved i s x small is there other
+other_chain tracked saved i s x small is there other = any_one (λ (state : TendermintClientState). state.chain ≢ tracked) (λ (t : Saved). client_states_in t.answer) saved i s x small is there other
 
-pub other_state : (tracked : List ℕ) (saved : List Saved) (i : ℕ) (s : Saved) (x : ClientState) (n : ℕ) → i < length saved → s ≡ get_or saved i s → client_states_in s.answer ≡ x ∷ []
+pub other_state : (tracked : List ℕ) (saved : List Saved) (i : ℕ) (s : Saved) (x : TendermintClientState) (n : ℕ) → i < length saved → s ≡ get_or saved i s → client_states_in s.answer ≡ x ∷ []
     → IsRevision tracked n → x.revision ≢ n → HasOtherRevision tracked saved
 other_state tracked saved i s x n small is there number other =
-    inl (any_one (λ (state : ClientState). ¬ IsRevision tracked state.revision) (λ (t : Saved). client_states_in t.answer) saved i s x small is there (other_revision tracked n x.revision number other))
+    inl (any_one (λ (state : TendermintClientState). ¬ IsRevision tracked state.revision) (λ (t : Saved). client_states_in t.answer) saved i s x small is there (other_revision tracked n x.revision number other))
 
 longer : {X A : Type 0} (f : X → List A) (xs : List X) (i : ℕ) → length (flat_map f (take i xs)) ≤ length (flat_map f xs)
 longer f [] zero = omega arith
@@ -98,10 +98,10 @@ longer f (x ∷ xs) (suc i) =
     let long : length (f x ++ flat_map f xs) ≡ length (f x) + length (flat_map f xs) = length-append (f x) _ in
     omega arith
 
-pub two_states : (tracked : List ℕ) (saved : List Saved) (i : ℕ) (s : Saved) (x y : ClientState) → i < length saved → s ≡ get_or saved i s → x ∷ [] ≡ client_states_of (take i saved)
+pub two_states : (tracked : List ℕ) (saved : List Saved) (i : ℕ) (s : Saved) (x y : TendermintClientState) → i < length saved → s ≡ get_or saved i s → x ∷ [] ≡ client_states_of (take i saved)
     → client_states_in s.answer ≡ y ∷ [] → TellsTwice tracked saved
 two_states tracked saved i s x y small is before there =
-    let f : Saved → List ClientState = λ t. client_states_in t.answer in
+    let f : Saved → List TendermintClientState = λ t. client_states_in t.answer in
     let both : flat_map f (take (i + 1) saved) ≡ x ∷ y ∷ [] = taken f saved i s small is ∙ ap (λ l. l ++ f s) (sym before) ∙ ap (λ l. x ∷ l) there in
     let two : length (flat_map f (take (i + 1) saved)) ≡ 2 = ap length both in
     let most : length (flat_map f (take (i + 1) saved)) ≤ length (flat_map f saved) = longer f saved (i + 1) in

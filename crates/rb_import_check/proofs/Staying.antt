@@ -11,7 +11,7 @@ use Rattle.rb_valset.specs.Validator.{Member}
 use Rattle.rb_valset.specs.ValidatorSet.{set_hash, in_set_order}
 use Rattle.rb_import_answers.specs.declared.commit.SignedHeader.{SignedHeader}
 use Rattle.rb_import_answers.specs.declared.validators.ValidatorsPage.{ValidatorsPage}
-use Rattle.rb_import_answers.specs.declared.verdicts.Verdict.{Verdict}
+use Rattle.rb_import_answers.specs.declared.verdicts.CommitVerdict.{CommitVerdict}
 use Rattle.rb_import_answers.specs.declared.verdicts.Verdicts.{Verdicts}
 use Rattle.rb_import_check.specs.declared.error.CheckErrorName.{CheckErrorName}
 use Rattle.rb_import_check.specs.declared.saved.Saved.{Saved}
@@ -150,7 +150,7 @@ module _ (id : List ℕ) (saved more : List Saved) where
       at : (vs : List Verdicts) → verdicts_of saved ≡ vs → Contradict id (saved ++ more)
       at [] none = absurd (none_told f.1 (length f.0.signatures.items) (subst (λ l. TellsOtherVotes (verdict_list l) f.1 (length f.0.signatures.items)) none tells))
       at (v ∷ vs) some =
-          let Tells : List Verdict → Filed → Type 0 = λ l g. TellsOtherVotes l g.1 (length g.0.signatures.items) in
+          let Tells : List CommitVerdict → Filed → Type 0 = λ l g. TellsOtherVotes l g.1 (length g.0.signatures.items) in
           (CheckErrorName.OtherVerdict, any_filed (Tells (verdict_list (verdicts_of (saved ++ more)))) (k, f, small, is, subst (λ l. Tells l f) (first_stays v vs some) tells))
 
   stays : (name : CheckErrorName) → Refuses name id saved → Contradict id (saved ++ more)

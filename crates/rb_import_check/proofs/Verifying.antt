@@ -3,7 +3,7 @@ use Rattle.std.proofs.Common.{ℕ, ◌+◌, ◌≤◌, List, [], ◌∷◌, Bool
 use Rattle.std.specs.Prelude.{option_map}
 use Rattle.rb_valset.specs.Validator.{Member}
 use Rattle.rb_import_answers.specs.declared.commit.Signature.{Signature}
-use Rattle.rb_import_answers.specs.declared.verdicts.Verdict.{Verdict}
+use Rattle.rb_import_answers.specs.declared.verdicts.CommitVerdict.{CommitVerdict}
 use Rattle.rb_import_check.specs.declared.chain.Commit.{Commit}
 use Rattle.rb_import_check.specs.declared.signed.Signatures.TheVariants.{AsGiven, Verified}
 use Rattle.rb_import_check.specs.Signed.{IsSignedBy, VerifiedVotesAreGiven, is_bad, is_for_block, is_good}
@@ -19,12 +19,12 @@ none : (k : ℕ) → 0 ≤ k
 none k = omega arith
 
 -- what a good vote lends, a vote that isn't bad lends, too
-lends : (for_block : Bool) (verdict : Option Verdict) (place k : ℕ) → cond (for_block && is_good verdict place) k 0 ≤ cond (for_block && not (is_bad verdict place)) k 0
+lends : (for_block : Bool) (verdict : Option CommitVerdict) (place k : ℕ) → cond (for_block && is_good verdict place) k 0 ≤ cond (for_block && not (is_bad verdict place)) k 0
 lends false verdict place k = omega arith
 lends true (Some v) place k = less (is_among v.bad.items place) (is_among v.unchecked.items place) k
 lends true None place k = none k
 
-fewer : (verdict : Option Verdict) (n : ℕ) (votes : List Signature) (set : List Member) → power_from Verified verdict n votes set ≤ power_from AsGiven verdict n votes set
+fewer : (verdict : Option CommitVerdict) (n : ℕ) (votes : List Signature) (set : List Member) → power_from Verified verdict n votes set ≤ power_from AsGiven verdict n votes set
 fewer verdict n [] set =
     let one = none_votes Verified verdict n set in
     let other = none_votes AsGiven verdict n set in
@@ -43,7 +43,7 @@ fewer verdict n (s ∷ votes) (m ∷ set) =
 signed : (c : Commit) (set : List Member) → IsSignedBy Verified c set → IsSignedBy AsGiven c set
 unfolding IsSignedBy
 signed c set by =
-    let verdict : Option Verdict = option_map (λ v. v.now) c.verdict in
+    let verdict : Option CommitVerdict = option_map (λ v. v.now) c.verdict in
     let votes : List Signature = c.header.now.signatures.items in
     let one = power_whole Verified verdict votes set in
     let other = power_whole AsGiven verdict votes set in

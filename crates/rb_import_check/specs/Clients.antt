@@ -4,7 +4,7 @@ use Rattle.std.specs.List.{flat_map, list_any}
 use Rattle.std.specs.List.Sorted.{IsPermutation}
 use Rattle.rb_import_answers.specs.declared.answer.NodeAnswer.{NodeAnswer}
 use Rattle.rb_import_answers.specs.declared.answer.NodeAnswer.TheVariants as answers
-use Rattle.rb_import_answers.specs.declared.client.ClientState.{ClientState}
+use Rattle.rb_import_answers.specs.declared.client.TendermintClientState.{TendermintClientState}
 use Rattle.rb_import_answers.specs.declared.client.ConsensusState.{ConsensusState}
 use Rattle.rb_import_answers.specs.declared.client.TrustLevel.{TrustLevel}
 use Rattle.rb_import_answers.specs.Revisions.{IsRevision}
@@ -21,7 +21,7 @@ use Rattle.rb_import_check.specs.declared.error.ImportError.TheVariants as error
 abbrev pub IsOfRevision : List ℕ → Stored → Type 0
 IsOfRevision tracked s = IsRevision tracked s.state.now.revision
 
-abbrev pub client_states_in : NodeAnswer → List ClientState
+abbrev pub client_states_in : NodeAnswer → List TendermintClientState
 client_states_in (answers.Commit header) = []
 client_states_in (answers.Validators page) = []
 client_states_in (answers.ClientState state) = state ∷ []
@@ -32,11 +32,11 @@ client_states_in (answers.Verdicts v) = []
 client_states_in (answers.Other query) = []
 
 -- the client states that a client's answers tell of
-abbrev pub client_states_of : List Saved → List ClientState
+abbrev pub client_states_of : List Saved → List TendermintClientState
 client_states_of saved = flat_map (λ s. client_states_in s.answer) saved
 
 -- what the setup gives, or else what the first client state gives
-abbrev pub chosen : {A : Type 0} → Option A → (ClientState → A) → List ClientState → Option A
+abbrev pub chosen : {A : Type 0} → Option A → (TendermintClientState → A) → List TendermintClientState → Option A
 chosen (Some x) get states = Some x
 chosen None get [] = None
 chosen None get (s ∷ states) = Some (get s)
@@ -45,7 +45,7 @@ chosen None get (s ∷ states) = Some (get s)
 abbrev pub level_of : TrustSetup → TrustLevel
 level_of t = record { numerator = t.numerator; denominator = t.denominator }
 
-abbrev pub JudgesAs : ClientSetup → List ClientState → SeenClient → Type 0
+abbrev pub JudgesAs : ClientSetup → List TendermintClientState → SeenClient → Type 0
 JudgesAs setup states c =
     (chosen setup.period (λ s. s.period) states ≡ Some c.period)
     × (chosen setup.drift (λ s. s.drift) states ≡ Some c.drift)
@@ -137,7 +137,7 @@ unfoldable pub AreOfClient : List Saved → Type 0
 AreOfClient saved = All (λ s. is_of_client s.answer ≡ true) saved
 
 -- a client state is on this chain, and of its revision (ICS 7: a client tracks one chain)
-unfoldable pub IsOnChain : List ℕ → ClientState → Type 0
+unfoldable pub IsOnChain : List ℕ → TendermintClientState → Type 0
 IsOnChain tracked s = (s.chain ≡ tracked) × IsRevision tracked s.revision
 
 -- one answer at most tells the client's state, on this chain

@@ -3,7 +3,7 @@ use Rattle.std.specs.Prelude.{◌≡◌, ◌≢◌, ◌⊎◌, ◌+◌, ◌<◌,
 use Rattle.std.specs.List.{flat_map}
 use Rattle.rb_valset.specs.ValidatorSet.{set_hash, in_set_order}
 use Rattle.rb_import_answers.specs.declared.answer.NodeAnswer.{NodeAnswer}
-use Rattle.rb_import_answers.specs.declared.client.ClientState.{ClientState}
+use Rattle.rb_import_answers.specs.declared.client.TendermintClientState.{TendermintClientState}
 use Rattle.rb_import_answers.specs.declared.verdicts.Verdicts.{Verdicts}
 use Rattle.rb_import_answers.specs.declared.validators.ValidatorsPage.{ValidatorsPage}
 use Rattle.rb_import_answers.specs.Revisions.{IsRevision}
@@ -30,7 +30,7 @@ abbrev pub filed_verdicts_of : List Saved → List (Verdicts × List ℕ)
 filed_verdicts_of saved = with_files verdicts_in saved
 
 -- the client states that a client's answers tell of, each with its file
-abbrev pub filed_client_states_of : List Saved → List (ClientState × List ℕ)
+abbrev pub filed_client_states_of : List Saved → List (TendermintClientState × List ℕ)
 filed_client_states_of saved = with_files client_states_in saved
 
 -- a page of validators, and the name of its file
@@ -155,7 +155,7 @@ NamesForeign saved errors.NoMemory = ⊤
 -- it names the file of a client state of another revision than the chain's
 abbrev pub NamesOtherState : List ℕ → List Saved → ImportError → Type 0
 NamesOtherState tracked saved e =
-    Any (λ (f : ClientState × List ℕ). (¬ IsRevision tracked f.0.revision) × IsOfNoHeight e × IsIn f.1 e) (filed_client_states_of saved)
+    Any (λ (f : TendermintClientState × List ℕ). (¬ IsRevision tracked f.0.revision) × IsOfNoHeight e × IsIn f.1 e) (filed_client_states_of saved)
 
 -- it names the height and the file of a record of another revision than this one
 abbrev pub NamesOtherRecord : ℕ → FiledState → ImportError → Type 0
@@ -163,7 +163,7 @@ NamesOtherRecord revision f e = (f.0.revision ≢ revision) × IsAt f.0.height e
 
 -- it is between two files of client states
 abbrev pub NamesTwoStates : List Saved → ImportError → Type 0
-NamesTwoStates saved e = IsBetweenTwo (λ (f : ClientState × List ℕ). f.1) (λ f g. IsOfNoHeight e) (filed_client_states_of saved) e
+NamesTwoStates saved e = IsBetweenTwo (λ (f : TendermintClientState × List ℕ). f.1) (λ f g. IsOfNoHeight e) (filed_client_states_of saved) e
 
 -- it is between the files of two different records of one height that aren't of a revision before this one, and names the height
 abbrev pub NamesTwoRecords : List Saved → ℕ → ImportError → Type 0
@@ -187,7 +187,7 @@ NamesTwoAmong told errors.NoMemory = ⊤
 abbrev pub NamesByName : CheckErrorName → List ℕ → List Saved → ImportError → Type 0
 NamesByName CheckErrorName.WrongFolder tracked saved e = NamesForeign saved e
 NamesByName CheckErrorName.OtherChain tracked saved e =
-    Any (λ (f : ClientState × List ℕ). (f.0.chain ≢ tracked) × NamesChain f.0.chain e × IsOfNoHeight e × IsIn f.1 e) (filed_client_states_of saved)
+    Any (λ (f : TendermintClientState × List ℕ). (f.0.chain ≢ tracked) × NamesChain f.0.chain e × IsOfNoHeight e × IsIn f.1 e) (filed_client_states_of saved)
 NamesByName CheckErrorName.OtherRevision tracked saved e =
     NamesOtherState tracked saved e ⊎ AtRevision tracked (λ revision. Any (λ f. NamesOtherRecord revision f e) (filed_states_of revision saved))
 NamesByName CheckErrorName.TwoAnswers tracked saved e = NamesTwoStates saved e ⊎ AtRevision tracked (λ revision. NamesTwoRecords saved revision e)

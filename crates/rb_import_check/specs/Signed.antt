@@ -8,7 +8,7 @@ use Rattle.rb_valset.specs.ValidatorSet.{set_hash, total_of}
 use Rattle.rb_import_answers.specs.declared.commit.BlockIdFlag.{BlockIdFlag}
 use Rattle.rb_import_answers.specs.declared.commit.BlockIdFlag.TheVariants as flags
 use Rattle.rb_import_answers.specs.declared.commit.Signature.{Signature}
-use Rattle.rb_import_answers.specs.declared.verdicts.Verdict.{Verdict}
+use Rattle.rb_import_answers.specs.declared.verdicts.CommitVerdict.{CommitVerdict}
 use Rattle.rb_import_check.specs.declared.chain.Commit.{Commit}
 use Rattle.rb_import_check.specs.declared.sets.SeenSet.{SeenSet}
 use Rattle.rb_import_check.specs.declared.signed.Signatures.{Signatures}
@@ -23,32 +23,32 @@ is_for_block flags.Commit = true
 is_for_block flags.Nil = false
 
 -- whether a verdict calls the vote at a place bad
-abbrev pub is_bad : Option Verdict → ℕ → Bool
+abbrev pub is_bad : Option CommitVerdict → ℕ → Bool
 is_bad (Some v) place = is_among v.bad.items place
 is_bad None place = false
 
 -- whether a verdict calls the vote at a place good: it is neither bad nor unchecked
-abbrev pub is_good : Option Verdict → ℕ → Bool
+abbrev pub is_good : Option CommitVerdict → ℕ → Bool
 is_good (Some v) place = not (is_among v.bad.items place || is_among v.unchecked.items place)
 is_good None place = false
 
 -- whether the verdict on a commit lets the vote at a place count: as answers give the votes, where it isn't bad; of verified votes, where it is good
-abbrev pub lets_count : Signatures → Option Verdict → ℕ → Bool
+abbrev pub lets_count : Signatures → Option CommitVerdict → ℕ → Bool
 lets_count AsGiven verdict place = not (is_bad verdict place)
 lets_count Verified verdict place = is_good verdict place
 
 -- whether the signature at a place counts: it is a vote for the block, and the verdict lets it count
-abbrev pub counts : Signatures → Option Verdict → ℕ → Signature → Bool
+abbrev pub counts : Signatures → Option CommitVerdict → ℕ → Signature → Bool
 counts signatures verdict place s = is_for_block s.flag && lets_count signatures verdict place
 
 -- the members of a set whose votes count; the votes stand in set order
-abbrev pub voters : Signatures → Option Verdict → List Signature → List Member → List Member
+abbrev pub voters : Signatures → Option CommitVerdict → List Signature → List Member → List Member
 voters signatures verdict votes set =
     map (λ (p : Member × (ℕ × Signature)). p.0)
     (filter (λ (p : Member × (ℕ × Signature)). counts signatures verdict p.1.0 p.1.1) (zip set (enumerate_from 0 votes)))
 
 -- the power of those
-unfoldable pub signed_power : Signatures → Option Verdict → List Signature → List Member → ℕ
+unfoldable pub signed_power : Signatures → Option CommitVerdict → List Signature → List Member → ℕ
 signed_power signatures verdict votes set = total_of (voters signatures verdict votes set)
 
 -- more than two thirds of the set's power voted for the block of this commit, in votes that count
@@ -71,6 +71,6 @@ VerifiedVotesAreGiven = (sets : List SeenSet) (c : Commit) → IsSigned Verified
 -- ---- (internal)
 
 -- whether there is a signature at a place, and it counts
-abbrev pub counts_at : Signatures → Option Verdict → ℕ → Option Signature → Bool
+abbrev pub counts_at : Signatures → Option CommitVerdict → ℕ → Option Signature → Bool
 counts_at signatures verdict place (Some s) = counts signatures verdict place s
 counts_at signatures verdict place None = false

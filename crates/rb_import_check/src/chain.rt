@@ -21,7 +21,7 @@ use crate::sets::{SeenSet, SeenSets};
 use crate::signed::Signatures;
 use crate::verdicts::{VerdictIndex, verdict_on, verdicts_in};
 use rb_base::{Height, Moment};
-use rb_import_answers::{NodeAnswer, Signature, SignedHeader, ValidatorsPage, Verdict};
+use rb_import_answers::{CommitVerdict, NodeAnswer, Signature, SignedHeader, ValidatorsPage};
 use rb_valset::{Validator, ValidatorSet};
 use std::alloc::{AllocError, Global};
 
@@ -31,7 +31,7 @@ pub struct Commit<'a> {
     pub file: &'a str,
     pub digest: [u8; 32],
     pub header: &'a SignedHeader,
-    pub verdict: Option<&'a Verdict>,
+    pub verdict: Option<&'a CommitVerdict>,
 }
 
 /// An answer of `/validators` and its file.

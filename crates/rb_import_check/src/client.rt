@@ -8,7 +8,9 @@ ghost use Rattle.rb_import_check.specs.Clients.{AreOfClient, AreStatesOfFiles, A
 use crate::error::{CheckErrorName, ImportError};
 use crate::saved::Saved;
 use rb_base::{ChainId, Period};
-use rb_import_answers::{ClientState, ConsensusState, NodeAnswer, TrustLevel, revision_of};
+use rb_import_answers::{
+    ConsensusState, NodeAnswer, TendermintClientState, TrustLevel, revision_of,
+};
 use rb_import_setup::{ClientSetup, TrustSetup};
 use std::alloc::{AllocError, Global};
 
@@ -86,7 +88,7 @@ fn state_of<'a>(
     setup: &'a ClientSetup,
     tracked: &ChainId,
     answers: &'a [Saved],
-) -> Result<Option<&'a ClientState>, ImportError<'a>>
+) -> Result<Option<&'a TendermintClientState>, ImportError<'a>>
     ensures state { IfOk result (λ state. option_to_list (option_map (λ s. s.now) state) ≡ client_states_of answers.entry.now) }
     ensures chain { OnOk result (AreStatesOn tracked.now answers.entry.now) }
     ensures reason { IfErr result (HasReason setup.entry.now tracked.now answers.entry.now) }
@@ -95,7 +97,7 @@ fn state_of<'a>(
 {
     let id = setup.id.as_str();
     let revision = revision_of(tracked.as_str());
-    let mut found: Option<(&'a str, &'a ClientState)> = None;
+    let mut found: Option<(&'a str, &'a TendermintClientState)> = None;
     for saved in answers {
         if let NodeAnswer::ClientState(state) = &saved.answer {
             let file = saved.file.as_str();
@@ -116,7 +118,7 @@ fn state_of<'a>(
 }
 
 /// Whether a client state tells of this chain.
-fn is_of_chain(state: &ClientState, chain: &ChainId) -> bool
+fn is_of_chain(state: &TendermintClientState, chain: &ChainId) -> bool
     ensures { IsTrue result ↔ (state.now.chain ≡ chain.now) }
 {
     state.chain.as_str() == chain.as_str()

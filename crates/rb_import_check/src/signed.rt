@@ -5,7 +5,7 @@ ghost use Rattle.rb_import_check.specs.Signed.{IsSignedBy, counts, counts_at, is
 use crate::chain::Commit;
 use crate::verdicts::is_among;
 use rb_base::Fraction;
-use rb_import_answers::{BlockIdFlag, Signature, Verdict};
+use rb_import_answers::{BlockIdFlag, CommitVerdict, Signature};
 use rb_valset::ValidatorSet;
 
 /// Which votes of a commit count.
@@ -52,7 +52,7 @@ fn counts_at(signatures: Signatures, commit: &Commit<'_>, place: usize) -> bool
 /// Whether the signature at a place is a vote for the block that the verdict on its commit lets count.
 fn counts(
     signatures: Signatures,
-    verdict: Option<&Verdict>,
+    verdict: Option<&CommitVerdict>,
     place: u64,
     signature: &Signature,
 ) -> bool
@@ -68,7 +68,7 @@ fn is_for_block(flag: BlockIdFlag) -> bool
 }
 
 /// Whether the verdict on a commit lets the vote at a place count.
-fn lets_count(signatures: Signatures, verdict: Option<&Verdict>, place: u64) -> bool
+fn lets_count(signatures: Signatures, verdict: Option<&CommitVerdict>, place: u64) -> bool
     ensures { result ≡ lets_count signatures (option_map (λ v. v.now) verdict.entry) place }
 {
     match signatures {
@@ -78,7 +78,7 @@ fn lets_count(signatures: Signatures, verdict: Option<&Verdict>, place: u64) -> 
 }
 
 /// Whether a verdict calls the vote at a place bad.
-pub fn is_bad(verdict: Option<&Verdict>, place: u64) -> bool
+pub fn is_bad(verdict: Option<&CommitVerdict>, place: u64) -> bool
     ensures { result ≡ is_bad (option_map (λ v. v.now) verdict.entry) place }
 {
     match verdict {
@@ -88,7 +88,7 @@ pub fn is_bad(verdict: Option<&Verdict>, place: u64) -> bool
 }
 
 /// Whether a verdict calls the vote at a place good: it is neither bad nor unchecked.
-fn is_good(verdict: Option<&Verdict>, place: u64) -> bool
+fn is_good(verdict: Option<&CommitVerdict>, place: u64) -> bool
     ensures { result ≡ is_good (option_map (λ v. v.now) verdict.entry) place }
 {
     match verdict {

@@ -7,7 +7,7 @@ ghost use Rattle.rb_import_check.specs.Verdicts.{AreFound, AreVerdictsOn, IsVerd
 
 use crate::error::{CheckErrorName, ImportError};
 use crate::saved::Saved;
-use rb_import_answers::{NodeAnswer, SignedHeader, Verdict, Verdicts};
+use rb_import_answers::{CommitVerdict, NodeAnswer, SignedHeader, Verdicts};
 use std::alloc::{AllocError, Global};
 use std::collections::BTreeMap;
 
@@ -81,7 +81,7 @@ impl<'a> VerdictIndex<'a> {
     }
 
     /// A verdict on the file of this SHA-256.
-    fn verdict_of(&self, digest: &[u8; 32]) -> Option<&'a Verdict>
+    fn verdict_of(&self, digest: &[u8; 32]) -> Option<&'a CommitVerdict>
         ensures { IsVerdictOn (verdict_list (option_to_list (option_map (λ v. v.now) self.now.verdicts))) digest.now (option_map (λ v. v.now) result) }
     {
         let Some(place) = self.places.get(digest).copied() else {
@@ -92,7 +92,10 @@ impl<'a> VerdictIndex<'a> {
 }
 
 /// The place of a verdict on each file, by its SHA-256.
-fn places_of(alloc: Global, verdicts: &[Verdict]) -> Result<BTreeMap<[u8; 32], usize>, AllocError>
+fn places_of(
+    alloc: Global,
+    verdicts: &[CommitVerdict],
+) -> Result<BTreeMap<[u8; 32], usize>, AllocError>
     ensures { IfOk result (AreFound verdicts.now) }
 {
     let mut places = BTreeMap::new(alloc);
@@ -103,7 +106,7 @@ fn places_of(alloc: Global, verdicts: &[Verdict]) -> Result<BTreeMap<[u8; 32], u
 }
 
 /// The verdicts on commits, none where there are none.
-fn commits_of<'a>(verdicts: Option<&'a Verdicts>) -> &'a [Verdict]
+fn commits_of<'a>(verdicts: Option<&'a Verdicts>) -> &'a [CommitVerdict]
     ensures { result.now ≡ verdict_list (option_to_list (option_map (λ v. v.now) verdicts.entry)) }
 {
     match verdicts {
@@ -119,7 +122,7 @@ pub fn verdict_on<'a>(
     index: &VerdictIndex<'a>,
     saved: &'a Saved,
     header: &SignedHeader,
-) -> Result<Option<&'a Verdict>, ImportError<'a>>
+) -> Result<Option<&'a CommitVerdict>, ImportError<'a>>
     ensures verdict { IfOk result (λ verdict. IsVerdictOn (verdict_list (option_to_list (option_map (λ v. v.now) index.now.verdicts))) saved.entry.now.digest (option_map (λ v. v.now) verdict)) }
     ensures votes { IfOk result (λ verdict. HasVotes (length header.now.signatures.items) (option_map (λ v. v.now) verdict)) }
     ensures other { IfErr result (IsTold CheckErrorName.OtherVerdict (TellsOtherVotes (verdict_list (option_to_list (option_map (λ v. v.now) index.now.verdicts))) saved.entry.now.digest (length header.now.signatures.items))) }
@@ -137,7 +140,7 @@ pub fn verdict_on<'a>(
 }
 
 /// Whether a verdict, if there is one, tells of so many votes.
-fn has_votes(verdict: Option<&Verdict>, votes: u64) -> bool
+fn has_votes(verdict: Option<&CommitVerdict>, votes: u64) -> bool
     ensures { IsTrue result ↔ HasVotes votes (option_map (λ v. v.now) verdict.entry) }
 {
     match verdict {

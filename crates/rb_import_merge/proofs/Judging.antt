@@ -10,7 +10,7 @@ use Rattle.std.proofs.lemmas.Option.{none-some, same_Some, slice_get-map, slice_
 use Rattle.rb_import_answers.specs.declared.packets.PacketPage.{PacketPage}
 use Rattle.rb_import_setup.specs.declared.setup.ClientSetup.{ClientSetup}
 use Rattle.rb_import_setup.specs.declared.setup.PathSetup.{PathSetup}
-use Rattle.rb_import_setup.specs.declared.setup.Setup.{Setup}
+use Rattle.rb_import_setup.specs.declared.setup.ImportSetup.{ImportSetup}
 use Rattle.rb_import_check.specs.declared.chain.SeenChain.{SeenChain}
 use Rattle.rb_import_check.specs.declared.client.SeenClient.{SeenClient}
 use Rattle.rb_import_check.specs.declared.error.CheckError.{CheckError}
@@ -22,7 +22,7 @@ use Rattle.rb_import_check.specs.declared.signed.Signatures.{Signatures}
 use Rattle.rb_import_merge.specs.declared.errors.ImportErrors.{ImportErrors}
 use Rattle.rb_import_merge.specs.declared.errors.ImportErrors.TheVariants as all
 use Rattle.rb_import_merge.specs.declared.path.SeenPath.{SeenPath}
-use Rattle.rb_import_merge.specs.declared.seen.Seen.{Seen}
+use Rattle.rb_import_merge.specs.declared.seen.SeenSetup.{SeenSetup}
 use Rattle.rb_import_check.specs.Errors.{IsToldOf}
 use Rattle.rb_import_merge.specs.Committed.{HaveCommitted}
 use Rattle.rb_import_merge.specs.Errors.{AreThese, OfEach}
@@ -125,7 +125,7 @@ numbered {X = X} Holds number xs fs (long, each) = (
         sym (same_Some f.1 n second) ∙ (each i x f at here).1 ∙ ap (number i) (same_Some f.0 chain first)
     by i chain n None here first second = absurd (none-some n second)
 
-pub filed_at : (setup : Setup) (signatures : Signatures) (answers : SavedAnswers) (rs : List (Result Fitting ImportError)) → AreJudgedChains setup signatures answers rs → (place : ℕ) → IsFiledAt answers rs place
+pub filed_at : (setup : ImportSetup) (signatures : Signatures) (answers : SavedAnswers) (rs : List (Result Fitting ImportError)) → AreJudgedChains setup signatures answers rs → (place : ℕ) → IsFiledAt answers rs place
 filed_at setup signatures answers rs (long, each) place = by (slice_get rs place) refl
   where
     by : (o : Option (Result Fitting ImportError)) → slice_get rs place ≡ o → IfSome (seen_of o) (AreFiledIn (answers_at answers.chains.items place))
@@ -136,7 +136,7 @@ filed_at setup signatures answers rs (long, each) place = by (slice_get rs place
     by None there = tt
 
 -- what was seen of a setup, where nothing is refused
-pub all_seen : (setup : Setup) (signatures : Signatures) (answers : SavedAnswers) (seen : Seen) (fs : List Fitting) (by_chain : List (Result Fitting ImportError)) (by_client : List (Result SeenClient ImportError))
+pub all_seen : (setup : ImportSetup) (signatures : Signatures) (answers : SavedAnswers) (seen : SeenSetup) (fs : List Fitting) (by_chain : List (Result Fitting ImportError)) (by_client : List (Result SeenClient ImportError))
     (by_path : List (Result SeenPath ImportError)) → AreJudgedChains setup signatures answers by_chain → AreJudgedClients setup answers by_chain by_client → AreJudgedPaths setup answers by_path
     → by_chain ≡ map (λ f. Ok f) fs → by_client ≡ map (λ s. Ok s) seen.clients.items → by_path ≡ map (λ s. Ok s) seen.paths.items
     → seen.chains.items ≡ map (λ (f : Fitting). f.0) fs → seen.surplus.items ≡ map (λ (f : Fitting). f.1) fs
@@ -206,7 +206,7 @@ each_problem {X = X} {Y = Y} P Sees Refuses xs rs reason (long, each) = all_of P
     by i (Err errors.NoMemory) there = All-nil P
 
 -- each problem has its reason in the answers
-pub all_reasons : (setup : Setup) (signatures : Signatures) (answers : SavedAnswers) (by_chain : List (Result Fitting ImportError)) (by_client : List (Result SeenClient ImportError)) (by_path : List (Result SeenPath ImportError))
+pub all_reasons : (setup : ImportSetup) (signatures : Signatures) (answers : SavedAnswers) (by_chain : List (Result Fitting ImportError)) (by_client : List (Result SeenClient ImportError)) (by_path : List (Result SeenPath ImportError))
     (none one two three : List CheckError) → AreJudgedChains setup signatures answers by_chain → AreJudgedClients setup answers by_chain by_client → AreJudgedPaths setup answers by_path
     → none ≡ [] → one ≡ none ++ flat_map problems_in by_chain → two ≡ one ++ flat_map problems_in by_client → three ≡ two ++ flat_map problems_in by_path
     → All (λ p. IsOfAnswers setup answers (errors.CheckError p)) three

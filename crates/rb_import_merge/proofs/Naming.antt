@@ -12,7 +12,7 @@ use Rattle.std.proofs.lemmas.List.Kept.{Contains-dedup_nat, Contains-from_dedup}
 use Rattle.std.proofs.lemmas.List.Sorted.{Contains-permutation, IsPermutation-sym}
 use Rattle.std.proofs.lemmas.Option.{none-some, same_Some, slice_get_read, slice_get_within}
 use Rattle.rb_import_setup.specs.declared.setup.ClientSetup.{ClientSetup}
-use Rattle.rb_import_setup.specs.declared.setup.Setup.{Setup}
+use Rattle.rb_import_setup.specs.declared.setup.ImportSetup.{ImportSetup}
 use Rattle.rb_import_check.specs.declared.chain.SeenChain.{SeenChain}
 use Rattle.rb_import_check.specs.declared.client.Stored.{Stored}
 use Rattle.rb_import_check.specs.declared.sets.SeenSet.{SeenSet}
@@ -130,15 +130,15 @@ gains_all Names xs i old now whole gained = subst (λ l. Gains (λ p. Any (Names
 
 -- ---- those that the first so many clients' records name
 
-abbrev pub NextBefore : ℕ → Setup → List (Vec Stored Global) → ℕ → List SeenSet → ℕ → Type 0
+abbrev pub NextBefore : ℕ → ImportSetup → List (Vec Stored Global) → ℕ → List SeenSet → ℕ → Type 0
 NextBefore n setup records place sets p =
     (i : ℕ) × (c : ClientSetup) × (written : Vec Stored Global) × (i < n) × (slice_get setup.clients.items i ≡ Some c) × (slice_get records i ≡ Some written)
     × (c.tracks ≡ place) × Any (NamesNext sets p) written.items
 
-pub next_start : (setup : Setup) (records : List (Vec Stored Global)) (place : ℕ) (sets : List SeenSet) (old : List ℕ) → Gains (NextBefore 0 setup records place sets) old old
+pub next_start : (setup : ImportSetup) (records : List (Vec Stored Global)) (place : ℕ) (sets : List SeenSet) (old : List ℕ) → Gains (NextBefore 0 setup records place sets) old old
 next_start setup records place sets old = gains_none (NextBefore 0 setup records place sets) old (λ p w. omega (arith, w.3))
 
-pub next_more : (setup : Setup) (records : List (Vec Stored Global)) (place : ℕ) (sets : List SeenSet) (n : ℕ) (c : ClientSetup) (written : Vec Stored Global) (old before after : List ℕ)
+pub next_more : (setup : ImportSetup) (records : List (Vec Stored Global)) (place : ℕ) (sets : List SeenSet) (n : ℕ) (c : ClientSetup) (written : Vec Stored Global) (old before after : List ℕ)
     → n < length setup.clients.items → c ≡ get_or setup.clients.items n c → slice_get records n ≡ Some written → c.tracks ≡ place
     → Gains (NextBefore n setup records place sets) old before → Gains (λ p. Any (NamesNext sets p) written.items) before after → Gains (NextBefore (n + 1) setup records place sets) old after
 next_more setup records place sets n c written old before after small is there tracks gained more =
@@ -159,7 +159,7 @@ next_more setup records place sets n c written old before after small is there t
         let same : other ≡ written = same_Some other written (sym got ∙ ap (slice_get records) here ∙ there) in
         inr (subst (λ (y : Vec Stored Global). Any (NamesNext sets p) y.items) same any)
 
-pub next_same : (setup : Setup) (records : List (Vec Stored Global)) (place : ℕ) (sets : List SeenSet) (n : ℕ) (c : ClientSetup) (old now : List ℕ)
+pub next_same : (setup : ImportSetup) (records : List (Vec Stored Global)) (place : ℕ) (sets : List SeenSet) (n : ℕ) (c : ClientSetup) (old now : List ℕ)
     → n < length setup.clients.items → c ≡ get_or setup.clients.items n c → (c.tracks ≡ place → slice_get records n ≡ None)
     → Gains (NextBefore n setup records place sets) old now → Gains (NextBefore (n + 1) setup records place sets) old now
 next_same setup records place sets n c old now small is gone gained =
@@ -177,7 +177,7 @@ next_same setup records place sets n c old now small is gone gained =
         let none : slice_get records n ≡ None = gone (ap (λ (y : ClientSetup). y.tracks) (sym same) ∙ follows) in
         absurd (none-some other (sym (sym got ∙ ap (slice_get records) here ∙ none)))
 
-pub next_all : (setup : Setup) (records : List (Vec Stored Global)) (place : ℕ) (sets : List SeenSet) (n : ℕ) (old now : List ℕ) → length setup.clients.items ≤ n
+pub next_all : (setup : ImportSetup) (records : List (Vec Stored Global)) (place : ℕ) (sets : List SeenSet) (n : ℕ) (old now : List ℕ) → length setup.clients.items ≤ n
     → Gains (NextBefore n setup records place sets) old now → Gains (IsNextOfRecord setup records place sets) old now
 unfolding IsNextOfRecord
 next_all setup records place sets n old now whole gained =
@@ -202,7 +202,7 @@ pub keeps_highest : (given all : List ℕ) (kept : KeptSets) → IsStrictlyIncre
 unfolding KeepsHighestOf
 keeps_highest given all kept rises same highest = (all, rises, same, highest)
 
-pub keeps_named : (setup : Setup) (records : List (Vec Stored Global)) (place : ℕ) (chain : SeenChain) (named : List ℕ) (kept : KeptSets) → Gains (IsNamed setup records place chain) [] named
+pub keeps_named : (setup : ImportSetup) (records : List (Vec Stored Global)) (place : ℕ) (chain : SeenChain) (named : List ℕ) (kept : KeptSets) → Gains (IsNamed setup records place chain) [] named
     → KeepsHighestOf (Contains named) kept → KeepsHighestOf (IsNamed setup records place chain) kept
 unfolding KeepsHighestOf Gains
 keeps_named setup records place chain named kept gained (all, rises, same, highest) =

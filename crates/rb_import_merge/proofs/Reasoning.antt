@@ -5,7 +5,7 @@ use Rattle.std.specs.List.{flat_map}
 use Rattle.std.proofs.lemmas.List.Elements.{All-contains}
 use Rattle.rb_import_setup.specs.declared.setup.ClientSetup.{ClientSetup}
 use Rattle.rb_import_setup.specs.declared.setup.PathSetup.{PathSetup}
-use Rattle.rb_import_setup.specs.declared.setup.Setup.{Setup}
+use Rattle.rb_import_setup.specs.declared.setup.ImportSetup.{ImportSetup}
 use Rattle.rb_import_check.specs.declared.chain.Commit.{Commit}
 use Rattle.rb_import_check.specs.declared.chain.SeenChain.{SeenChain}
 use Rattle.rb_import_check.specs.declared.client.Stored.{Stored}
@@ -30,23 +30,23 @@ some_and P o x is p = subst (λ (q : Option _). IsSomeAnd q P) (sym is) p
 
 -- ---- at a place
 
-pub chain_refused : (setup : Setup) (answers : SavedAnswers) (i : ℕ) (id : List ℕ) (e : ImportError) → slice_get setup.chains.items i ≡ Some id
+pub chain_refused : (setup : ImportSetup) (answers : SavedAnswers) (i : ℕ) (id : List ℕ) (e : ImportError) → slice_get setup.chains.items i ≡ Some id
     → IsOfChainAnswers id (answers_at answers.chains.items i) e → IsOfAnswers setup answers e
 chain_refused setup answers i id e at refuses = inl (i, some_and (λ x. IsOfChainAnswers x (answers_at answers.chains.items i) e) _ id at refuses)
 
-pub client_refused : (setup : Setup) (answers : SavedAnswers) (i : ℕ) (c : ClientSetup) (e : ImportError) → slice_get setup.clients.items i ≡ Some c
+pub client_refused : (setup : ImportSetup) (answers : SavedAnswers) (i : ℕ) (c : ClientSetup) (e : ImportError) → slice_get setup.clients.items i ≡ Some c
     → IsOfClientAnswers setup answers c (answers_at answers.clients.items i) e → IsOfAnswers setup answers e
 client_refused setup answers i c e at refuses =
     inr (inl (i, some_and (λ (x : ClientSetup). IsOfClientAnswers setup answers x (answers_at answers.clients.items i) e) _ c at refuses))
 
-pub path_refused : (setup : Setup) (answers : SavedAnswers) (i : ℕ) (path : PathSetup) (e : ImportError) → slice_get setup.paths.items i ≡ Some path
+pub path_refused : (setup : ImportSetup) (answers : SavedAnswers) (i : ℕ) (path : PathSetup) (e : ImportError) → slice_get setup.paths.items i ≡ Some path
     → IsOfPathAnswers path (answers_at answers.paths.items i) e → IsOfAnswers setup answers e
 path_refused setup answers i path e at refuses =
     inr (inr (i, some_and (λ (x : PathSetup). IsOfPathAnswers x (answers_at answers.paths.items i) e) _ path at refuses))
 
 -- ---- clients
 
-pub of_its_answers : (setup : Setup) (answers : SavedAnswers) (client : ClientSetup) (tracked : List ℕ) (saved : List Saved) (e : ImportError) → slice_get setup.chains.items client.tracks ≡ Some tracked
+pub of_its_answers : (setup : ImportSetup) (answers : SavedAnswers) (client : ClientSetup) (tracked : List ℕ) (saved : List Saved) (e : ImportError) → slice_get setup.chains.items client.tracks ≡ Some tracked
     → IsToldOf client.id e → HasReason client tracked saved e → NamesIn tracked saved e → IsOfClientAnswers setup answers client saved e
 of_its_answers setup answers client tracked saved e there told reason names = (told, inl (some_and (λ x. HasReason client x saved e × NamesIn x saved e) _ tracked there (reason, names)))
 
@@ -80,7 +80,7 @@ named_record saved tracked revision chain stored e seen states w =
         let (j, less, there) = All-contains (λ (x : Stored). Contains (filed_states_of revision saved) (filed_state x)) stored s states (k, small, is) in
         (j, filed_state s, less, there, named_header tracked chain e s seen other)
 
-pub of_other_record : (setup : Setup) (answers : SavedAnswers) (client : ClientSetup) (tracked : List ℕ) (saved : List Saved) (chain : Option SeenChain) (stored : List Stored) (e : ImportError)
+pub of_other_record : (setup : ImportSetup) (answers : SavedAnswers) (client : ClientSetup) (tracked : List ℕ) (saved : List Saved) (chain : Option SeenChain) (stored : List Stored) (e : ImportError)
     → IfSome chain (AreFiledIn (answers_at answers.chains.items client.tracks)) → AtRevision tracked (λ revision. AreStatesOfFiles (filed_states_of revision saved) stored)
     → IsToldOf client.id e → IsOfDifference chain stored e → IsOfClientAnswers setup answers client saved e
 of_other_record setup answers client tracked saved chain stored errors.NoMemory filed states told w = (told, inr tt)
@@ -101,7 +101,7 @@ abbrev is_of_record : CheckErrorName → Type 0
 is_of_record CheckErrorName.OtherRecord = ⊤
 is_of_record _ = ⊥
 
-pub not_too_big : (setup : Setup) (answers : SavedAnswers) (e : ImportError) → HasReasonIn setup answers e → ¬ IsTooBig e
+pub not_too_big : (setup : ImportSetup) (answers : SavedAnswers) (e : ImportError) → HasReasonIn setup answers e → ¬ IsTooBig e
 not_too_big setup answers errors.NoMemory w big = absurd big
 not_too_big setup answers (errors.CheckError p) w big = in_none w
   where

@@ -9,7 +9,7 @@ use Rattle.std.proofs.lemmas.List.{take_more}
 use Rattle.std.proofs.lemmas.Option.{get_or_from_slice_get, none-some, same_Some, slice_get_read, slice_get_within}
 use Rattle.std.proofs.lemmas.List.Elements.{All-nil, All-push, All-append, All-weaker, All-contains, All-contains_itself, All-map, Contains-append_left, Contains-append_right, Contains-push}
 use Rattle.rb_import_setup.specs.declared.setup.ClientSetup.{ClientSetup}
-use Rattle.rb_import_setup.specs.declared.setup.Setup.{Setup}
+use Rattle.rb_import_setup.specs.declared.setup.ImportSetup.{ImportSetup}
 use Rattle.rb_import_check.specs.declared.chain.Commit.{Commit}
 use Rattle.rb_import_check.specs.declared.chain.SeenChain.{SeenChain}
 use Rattle.rb_import_check.specs.declared.client.SeenClient.{SeenClient}
@@ -84,13 +84,13 @@ abbrev pub height_of : Stored → ℕ
 height_of s = s.state.now.height
 
 -- a client that tracks the chain at a place, one of the first so many, has stored a record of this height
-abbrev pub StoredBefore : ℕ → Setup → List SeenClient → ℕ → ℕ → Type 0
+abbrev pub StoredBefore : ℕ → ImportSetup → List SeenClient → ℕ → ℕ → Type 0
 StoredBefore n setup clients place height =
     (i : ℕ) × (c : ClientSetup) × (seen : SeenClient) × (i < n) × (slice_get setup.clients.items i ≡ Some c) × (slice_get clients i ≡ Some seen)
     × (c.tracks ≡ place) × Any (λ (s : Stored). s.state.now.height ≡ height) seen.stored.items
 
 -- these are the heights that the first so many clients have stored
-unfoldable pub AreStoredBefore : ℕ → Setup → List SeenClient → ℕ → List ℕ → Type 0
+unfoldable pub AreStoredBefore : ℕ → ImportSetup → List SeenClient → ℕ → List ℕ → Type 0
 AreStoredBefore n setup clients place heights =
     All (IsStored setup clients place) heights × ((h : ℕ) → StoredBefore n setup clients place h → Contains heights h)
 
@@ -101,7 +101,7 @@ in_heights h (x ∷ xs) (suc k, s, small, is, same) =
     let w = in_heights h xs (k, s, omega arith, is, same) in
     (suc w.0, omega (arith, w.1), w.2)
 
-its_heights : (setup : Setup) (clients : List SeenClient) (place i : ℕ) (c : ClientSetup) (seen : SeenClient) → slice_get setup.clients.items i ≡ Some c → slice_get clients i ≡ Some seen
+its_heights : (setup : ImportSetup) (clients : List SeenClient) (place i : ℕ) (c : ClientSetup) (seen : SeenClient) → slice_get setup.clients.items i ≡ Some c → slice_get clients i ≡ Some seen
     → c.tracks ≡ place → All (IsStored setup clients place) (map height_of seen.stored.items)
 unfolding IsStored
 its_heights setup clients place i c seen at there tracks =
@@ -109,11 +109,11 @@ its_heights setup clients place i c seen at there tracks =
     (All-weaker (Contains seen.stored.items) (λ s. IsStored setup clients place (height_of s))
     (λ s w. (i, c, seen, at, there, tracks, (w.0, s, w.1, w.2, refl))) seen.stored.items (All-contains_itself seen.stored.items))
 
-pub none_stored : (setup : Setup) (clients : List SeenClient) (place : ℕ) → AreStoredBefore 0 setup clients place []
+pub none_stored : (setup : ImportSetup) (clients : List SeenClient) (place : ℕ) → AreStoredBefore 0 setup clients place []
 unfolding AreStoredBefore
 none_stored setup clients place = (All-nil (IsStored setup clients place), λ h w. absurd (omega (arith, w.3)))
 
-pub stored_more : (setup : Setup) (clients : List SeenClient) (place n : ℕ) (c : ClientSetup) (seen : SeenClient) (before after : List ℕ) → n < length setup.clients.items → c ≡ get_or setup.clients.items n c
+pub stored_more : (setup : ImportSetup) (clients : List SeenClient) (place n : ℕ) (c : ClientSetup) (seen : SeenClient) (before after : List ℕ) → n < length setup.clients.items → c ≡ get_or setup.clients.items n c
     → slice_get clients n ≡ Some seen → c.tracks ≡ place → after ≡ before ++ map height_of seen.stored.items → AreStoredBefore n setup clients place before → AreStoredBefore (n + 1) setup clients place after
 unfolding AreStoredBefore
 stored_more setup clients place n c seen before after small is there tracks now (are, all) =
@@ -128,7 +128,7 @@ stored_more setup clients place n c seen before after small is there tracks now 
         let same : other ≡ seen = same_Some other seen (sym got ∙ ap (slice_get clients) here ∙ there) in
         Contains-append_right before (map height_of seen.stored.items) h (in_heights h seen.stored.items (subst (λ (y : SeenClient). Any (λ (s : Stored). s.state.now.height ≡ h) y.stored.items) same any))
 
-pub stored_same : (setup : Setup) (clients : List SeenClient) (place n : ℕ) (c : ClientSetup) (heights : List ℕ) → n < length setup.clients.items → c ≡ get_or setup.clients.items n c
+pub stored_same : (setup : ImportSetup) (clients : List SeenClient) (place n : ℕ) (c : ClientSetup) (heights : List ℕ) → n < length setup.clients.items → c ≡ get_or setup.clients.items n c
     → (c.tracks ≡ place → slice_get clients n ≡ None) → AreStoredBefore n setup clients place heights → AreStoredBefore (n + 1) setup clients place heights
 unfolding AreStoredBefore
 stored_same setup clients place n c heights small is gone (are, all) =
@@ -143,7 +143,7 @@ stored_same setup clients place n c heights small is gone (are, all) =
         let none : slice_get clients n ≡ None = gone (ap (λ (y : ClientSetup). y.tracks) (sym same) ∙ follows) in
         absurd (none-some other (sym (sym got ∙ ap (slice_get clients) here ∙ none)))
 
-pub all_stored : (setup : Setup) (clients : List SeenClient) (place n : ℕ) (heights : List ℕ) → length setup.clients.items ≤ n → AreStoredBefore n setup clients place heights
+pub all_stored : (setup : ImportSetup) (clients : List SeenClient) (place n : ℕ) (heights : List ℕ) → length setup.clients.items ≤ n → AreStoredBefore n setup clients place heights
     → All (IsStored setup clients place) heights × ((h : ℕ) → IsStored setup clients place h → Contains heights h)
 unfolding AreStoredBefore IsStored
 all_stored setup clients place n heights whole (are, all) = (are, λ h (i, c, seen, at, there, tracks, any). all h (i, c, seen, within i c at, at, there, tracks, any))
@@ -162,7 +162,7 @@ placed : (chain : SeenChain) (room h : ℕ) (bare book : List ℕ) → room ≡ 
 placed chain room h bare book is highest (inl there) = fits chain room h book is (All-contains (λ (k : ℕ). Contains book k ⊎ HasNoRoom room book k) bare h highest there)
 placed chain room h bare book is highest (inr header) = inl (kept_is chain book h (inr header))
 
-pub is_book : (setup : Setup) (clients : List SeenClient) (place room : ℕ) (chain : SeenChain) (stored bare book : List ℕ) → room ≡ room_of chain
+pub is_book : (setup : ImportSetup) (clients : List SeenClient) (place room : ℕ) (chain : SeenChain) (stored bare book : List ℕ) → room ≡ room_of chain
     → All (IsStored setup clients place) stored → ((h : ℕ) → IsStored setup clients place h → Contains stored h)
     → AreThose (λ (h : ℕ). ¬ HasHeader chain h) (HasHeader chain) stored bare
     → length book ≤ room → IsStrictlyIncreasing book → All (Contains bare) book → All (λ h. Contains book h ⊎ HasNoRoom room book h) bare

@@ -4,7 +4,7 @@ use Rattle.std.specs.Prelude.{Contains, IsSomeAnd, slice_get}
 use Rattle.std.proofs.lemmas.Option.{get_or_from_slice_get, slice_get_within}
 use Rattle.rb_import_setup.specs.declared.setup.ClientSetup.{ClientSetup}
 use Rattle.rb_import_setup.specs.declared.setup.PathSetup.{PathSetup}
-use Rattle.rb_import_setup.specs.declared.setup.Setup.{Setup}
+use Rattle.rb_import_setup.specs.declared.setup.ImportSetup.{ImportSetup}
 use Rattle.rb_import_check.specs.declared.error.CheckError.{CheckError}
 use Rattle.rb_import_check.specs.declared.error.ImportError.TheVariants as errors
 use Rattle.rb_import_check.specs.declared.saved.SavedAnswers.{SavedAnswers}
@@ -23,7 +23,7 @@ at_some {X = X} Holds xs (i, w) = there (slice_get xs i) refl w
     there (Some x) at holds = (x, i, contained xs i x at, holds)
     there None at holds = absurd holds
 
-pub told_in : (setup : Setup) (answers : SavedAnswers) (p : CheckError) → IsOfAnswers setup answers (errors.CheckError p) → IsToldIn setup (errors.CheckError p)
+pub told_in : (setup : ImportSetup) (answers : SavedAnswers) (p : CheckError) → IsOfAnswers setup answers (errors.CheckError p) → IsToldIn setup (errors.CheckError p)
 told_in setup answers p (inl w) =
     let (id, i, among, holds) = at_some (λ id i. IsOfChainAnswers id (answers_at answers.chains.items i) (errors.CheckError p)) setup.chains.items w in
     subst (IsNamedIn setup) (sym holds.0) (inl among)

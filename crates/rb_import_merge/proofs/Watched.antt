@@ -7,7 +7,7 @@ use Rattle.std.proofs.lemmas.List.Elements.{All-drop, Contains-append_left, Cont
 use Rattle.std.proofs.lemmas.List.Sorted.{Contains-permutation, IsPermutation-sym, length_permutation}
 use Rattle.rb_import_setup.specs.declared.setup.ClientSetup.{ClientSetup}
 use Rattle.rb_import_setup.specs.declared.setup.PathSetup.{PathSetup}
-use Rattle.rb_import_setup.specs.declared.setup.Setup.{Setup}
+use Rattle.rb_import_setup.specs.declared.setup.ImportSetup.{ImportSetup}
 use Rattle.rb_import_check.specs.declared.chain.Commit.{Commit}
 use Rattle.rb_import_check.specs.declared.chain.SeenChain.{SeenChain}
 use Rattle.rb_import_check.specs.declared.client.SeenClient.{SeenClient}
@@ -16,7 +16,7 @@ use Rattle.rb_import_check.specs.declared.saved.SavedAnswers.{SavedAnswers}
 use Rattle.rb_import_check.specs.declared.signed.Signatures.{Signatures}
 use Rattle.rb_import_check.specs.Chains.{HaveHeaders, filed, filed_of, headers_of}
 use Rattle.rb_import_merge.specs.declared.path.SeenPath.{SeenPath}
-use Rattle.rb_import_merge.specs.declared.seen.Seen.{Seen}
+use Rattle.rb_import_merge.specs.declared.seen.SeenSetup.{SeenSetup}
 use Rattle.rb_import_merge.specs.Room.{AtEachPlace, FitBooks}
 use Rattle.rb_import_merge.specs.Seen.{AreFiledIn, AreSeenClients, AreSeenPaths, IsSeenChain, IsSeenClient, IsSeenIn, IsSeenPath, answers_at, surplus_of}
 use Rattle.rb_import_merge.specs.Sets.{AreKeptSets}
@@ -24,11 +24,11 @@ use Rattle.rb_import_merge.proofs.Among.{in_map}
 use Rattle.rb_import_merge.proofs.Rooms.{AtEachBefore}
 
 -- a client tracks a chain of the setup
-pub client_within : (setup : Setup) (c : ClientSetup) (i : ℕ) → i < length setup.clients.items → c ≡ get_or setup.clients.items i c → c.tracks < length setup.chains.items
+pub client_within : (setup : ImportSetup) (c : ClientSetup) (i : ℕ) → i < length setup.clients.items → c ≡ get_or setup.clients.items i c → c.tracks < length setup.chains.items
 client_within setup c i small is = subst (λ (x : ClientSetup). x.tracks < length setup.chains.items) (sym is) (setup.places.each_client i c small).tracks
 
 -- a path's destination is a chain of the setup
-pub path_within : (setup : Setup) (p : PathSetup) (i : ℕ) → i < length setup.paths.items → p ≡ get_or setup.paths.items i p → p.config.destination < length setup.chains.items
+pub path_within : (setup : ImportSetup) (p : PathSetup) (i : ℕ) → i < length setup.paths.items → p ≡ get_or setup.paths.items i p → p.config.destination < length setup.chains.items
 path_within setup p i small is = subst (λ (x : PathSetup). x.config.destination < length setup.chains.items) (sym is) (setup.places.each_path i p small).destination
 
 -- what holds of the chain at a place holds of what stands there
@@ -60,7 +60,7 @@ are_filed id signatures saved chain ((commits, headers, room), sets, belong, jud
     (in_map filed joined (get_or commits k d) (in_joined commits chain.bare.items chain.unsigned.items (get_or commits k d) (Contains-get_or commits k d small))) in
     subst (All (λ (c : Commit). Contains (filed_of saved) (filed c))) (sym room.1) (All-drop (λ (c : Commit). Contains (filed_of saved) (filed c)) (length commits - 4096) commits all)
 
-pub seen_in : (setup : Setup) (signatures : Signatures) (answers : SavedAnswers) (seen : Seen)
+pub seen_in : (setup : ImportSetup) (signatures : Signatures) (answers : SavedAnswers) (seen : SeenSetup)
     → AtEachPlace (λ (i : ℕ) (id : List ℕ) (chain : SeenChain). IsSeenChain id signatures (answers_at answers.chains.items i) chain) setup.chains.items seen.chains.items
     → AtEachPlace (λ (i : ℕ) (chain : SeenChain) (surplus : ℕ). surplus ≡ surplus_of (answers_at answers.chains.items i) chain) seen.chains.items seen.surplus.items
     → AreSeenClients setup answers.clients.items seen.chains.items seen.clients.items → FitBooks setup seen.chains.items seen.clients.items seen.records.items

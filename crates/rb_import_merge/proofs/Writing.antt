@@ -12,7 +12,7 @@ use Rattle.rb_import_check.specs.declared.chain.SeenChain.{SeenChain}
 use Rattle.rb_import_check.specs.declared.sets.SeenSet.{SeenSet}
 use Rattle.rb_import_check.specs.Sets.{IsPlaceOf}
 use Rattle.rb_import_merge.specs.declared.kept.KeptSets.{KeptSets}
-use Rattle.rb_import_merge.specs.declared.seen.Seen.{Seen}
+use Rattle.rb_import_merge.specs.declared.seen.SeenSetup.{SeenSetup}
 use Rattle.rb_import_merge.specs.Seen.{IsKeptSet, IsWrittenOf, is_of_hash, is_written}
 
 pub decides_any : {X : Type 0} (p : X → Bool) (P : X → Type 0) → ((x : X) → Decides (p x) (P x)) → (xs : List X)
@@ -34,7 +34,7 @@ decides_written (Some c) (Some k) hash =
 decides_written (Some c) None hash = ((λ e. absurd (true≢false (sym e))), λ w. absurd w)
 decides_written None kept hash = ((λ e. absurd (true≢false (sym e))), λ w. absurd w)
 
-pub is_written-is : (r : Bool) (seen : Seen) (place : ℕ) (hash : List ℕ) → Decides r (IsWrittenOf seen.chains.items seen.sets.items place hash)
+pub is_written-is : (r : Bool) (seen : SeenSetup) (place : ℕ) (hash : List ℕ) → Decides r (IsWrittenOf seen.chains.items seen.sets.items place hash)
     → r ≡ is_written (slice_get seen.chains.items place) (slice_get seen.sets.items place) hash
 is_written-is r seen place hash decides =
     same_from_decides r (is_written (slice_get seen.chains.items place) (slice_get seen.sets.items place) hash) decides

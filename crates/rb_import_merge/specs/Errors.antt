@@ -2,7 +2,7 @@
 use Rattle.std.specs.Prelude.{◌≡◌, ◌⊎◌, ℕ, ⊤, List, [], ◌∷◌, All, Contains, codes}
 use Rattle.rb_import_setup.specs.declared.setup.ClientSetup.{ClientSetup}
 use Rattle.rb_import_setup.specs.declared.setup.PathSetup.{PathSetup}
-use Rattle.rb_import_setup.specs.declared.setup.Setup.{Setup}
+use Rattle.rb_import_setup.specs.declared.setup.ImportSetup.{ImportSetup}
 use Rattle.rb_import_check.specs.declared.error.CheckError.{CheckError}
 use Rattle.rb_import_check.specs.declared.error.ImportError.{ImportError}
 use Rattle.rb_import_check.specs.declared.error.ImportError.TheVariants as errors
@@ -10,7 +10,7 @@ use Rattle.rb_import_merge.specs.declared.errors.ImportErrors.{ImportErrors}
 use Rattle.rb_import_merge.specs.declared.errors.ImportErrors.TheVariants as all
 
 -- the identifier of a chain, a client or a path of the setup, or `-`, which stands for the script
-abbrev pub IsNamedIn : Setup → List ℕ → Type 0
+abbrev pub IsNamedIn : ImportSetup → List ℕ → Type 0
 IsNamedIn setup id =
     Contains setup.chains.items id
     ⊎ ((c : ClientSetup) × Contains setup.clients.items c × (c.id ≡ id))
@@ -18,7 +18,7 @@ IsNamedIn setup id =
     ⊎ (id ≡ codes "-")
 
 -- the problem is told of an object of the setup, or of the script
-abbrev pub IsToldIn : Setup → ImportError → Type 0
+abbrev pub IsToldIn : ImportSetup → ImportError → Type 0
 IsToldIn setup (errors.CheckError p) = IsNamedIn setup p.object.now
 IsToldIn setup errors.NoMemory = ⊤
 

@@ -2,7 +2,7 @@
 use Rattle.std.specs.Prelude.{◌≡◌, ℕ, List, [], ◌∷◌, Option, Some, None, Result, Ok, Err, IfSome, MatchResult, slice_get}
 use Rattle.rb_import_setup.specs.declared.setup.ClientSetup.{ClientSetup}
 use Rattle.rb_import_setup.specs.declared.setup.PathSetup.{PathSetup}
-use Rattle.rb_import_setup.specs.declared.setup.Setup.{Setup}
+use Rattle.rb_import_setup.specs.declared.setup.ImportSetup.{ImportSetup}
 use Rattle.rb_import_check.specs.declared.chain.SeenChain.{SeenChain}
 use Rattle.rb_import_check.specs.declared.client.SeenClient.{SeenClient}
 use Rattle.rb_import_check.specs.declared.error.CheckError.{CheckError}
@@ -23,7 +23,7 @@ AreJudged Sees Refuses xs results = AtEachPlace (λ i x r. MatchResult r (Sees i
 abbrev pub Fitting : Type 0
 Fitting = SeenChain × ℕ
 
-abbrev pub AreJudgedChains : Setup → Signatures → SavedAnswers → List (Result Fitting ImportError) → Type 0
+abbrev pub AreJudgedChains : ImportSetup → Signatures → SavedAnswers → List (Result Fitting ImportError) → Type 0
 AreJudgedChains setup signatures answers results =
     AreJudged
     (λ i id f. IsSeenChain id signatures (answers_at answers.chains.items i) f.0 × (f.1 ≡ surplus_of (answers_at answers.chains.items i) f.0))
@@ -42,13 +42,13 @@ chain_at results place = seen_of (slice_get results place)
 abbrev pub IsFiledAt : SavedAnswers → List (Result Fitting ImportError) → ℕ → Type 0
 IsFiledAt answers results place = IfSome (chain_at results place) (AreFiledIn (answers_at answers.chains.items place))
 
-abbrev pub AreJudgedClients : Setup → SavedAnswers → List (Result Fitting ImportError) → List (Result SeenClient ImportError) → Type 0
+abbrev pub AreJudgedClients : ImportSetup → SavedAnswers → List (Result Fitting ImportError) → List (Result SeenClient ImportError) → Type 0
 AreJudgedClients setup answers chains results =
     AreJudged
     (λ i c client. IsSeenClient setup.chains.items (chain_at chains c.tracks) c (answers_at answers.clients.items i) client)
     (λ i c e. IsOfClientAnswers setup answers c (answers_at answers.clients.items i) e) setup.clients.items results
 
-abbrev pub AreJudgedPaths : Setup → SavedAnswers → List (Result SeenPath ImportError) → Type 0
+abbrev pub AreJudgedPaths : ImportSetup → SavedAnswers → List (Result SeenPath ImportError) → Type 0
 AreJudgedPaths setup answers results =
     AreJudged
     (λ i path seen. IsSeenPath setup.chains.items path (answers_at answers.paths.items i) seen)

@@ -5,7 +5,7 @@ use Rattle.rb_import_answers.specs.declared.client.ConsensusState.{ConsensusStat
 use Rattle.rb_import_answers.specs.declared.commit.SignedHeader.{SignedHeader}
 use Rattle.rb_import_setup.specs.declared.setup.ClientSetup.{ClientSetup}
 use Rattle.rb_import_setup.specs.declared.setup.PathSetup.{PathSetup}
-use Rattle.rb_import_setup.specs.declared.setup.Setup.{Setup}
+use Rattle.rb_import_setup.specs.declared.setup.ImportSetup.{ImportSetup}
 use Rattle.rb_import_check.specs.declared.chain.SeenChain.{SeenChain}
 use Rattle.rb_import_check.specs.declared.client.Stored.{Stored}
 use Rattle.rb_import_check.specs.declared.error.CheckErrorName.{CheckErrorName}
@@ -45,7 +45,7 @@ abbrev pub IsOfChainAnswers : List ℕ → List Saved → ImportError → Type 0
 IsOfChainAnswers id saved e = IsToldOf id e × HasReasonOf id saved e × NamesOf id saved e
 
 -- so it is of a client, and of its answers beside those on the chain that it tracks
-abbrev pub IsOfClientAnswers : Setup → SavedAnswers → ClientSetup → List Saved → ImportError → Type 0
+abbrev pub IsOfClientAnswers : ImportSetup → SavedAnswers → ClientSetup → List Saved → ImportError → Type 0
 IsOfClientAnswers setup answers c saved e =
     IsToldOf c.id e
     × (IsSomeAnd (slice_get setup.chains.items c.tracks) (λ tracked. HasReason c tracked saved e × NamesIn tracked saved e)
@@ -60,13 +60,13 @@ abbrev pub AtSome : {X : Type 0} → (X → ℕ → Type 0) → List X → Type 
 AtSome Holds xs = (i : ℕ) × IsSomeAnd (slice_get xs i) (λ x. Holds x i)
 
 -- the error is of the answers of a chain, of a client or of a path of the setup
-abbrev pub IsOfAnswers : Setup → SavedAnswers → ImportError → Type 0
+abbrev pub IsOfAnswers : ImportSetup → SavedAnswers → ImportError → Type 0
 IsOfAnswers setup answers e =
     AtSome (λ id i. IsOfChainAnswers id (answers_at answers.chains.items i) e) setup.chains.items
     ⊎ AtSome (λ c i. IsOfClientAnswers setup answers c (answers_at answers.clients.items i) e) setup.clients.items
     ⊎ AtSome (λ p i. IsOfPathAnswers p (answers_at answers.paths.items i) e) setup.paths.items
 
 -- the error has its reason in the answers; memory may run out at any
-abbrev pub HasReasonIn : Setup → SavedAnswers → ImportError → Type 0
+abbrev pub HasReasonIn : ImportSetup → SavedAnswers → ImportError → Type 0
 HasReasonIn setup answers (errors.CheckError p) = IsOfAnswers setup answers (errors.CheckError p)
 HasReasonIn setup answers errors.NoMemory = ⊤

@@ -4,7 +4,7 @@ use Rattle.std.specs.Global.{Global}
 use Rattle.std.specs.List.{list_any}
 use Rattle.std.specs.List.Sorted.{IsStrictlyIncreasing}
 use Rattle.rb_import_setup.specs.declared.setup.ClientSetup.{ClientSetup}
-use Rattle.rb_import_setup.specs.declared.setup.Setup.{Setup}
+use Rattle.rb_import_setup.specs.declared.setup.ImportSetup.{ImportSetup}
 use Rattle.rb_import_check.specs.declared.chain.Commit.{Commit}
 use Rattle.rb_import_check.specs.declared.chain.SeenChain.{SeenChain}
 use Rattle.rb_import_check.specs.declared.client.SeenClient.{SeenClient}
@@ -31,7 +31,7 @@ unfoldable pub is_kept : SeenChain → List ℕ → ℕ → Bool
 is_kept chain book height = list_any (λ h. h == height) book || list_any (λ (c : Commit). c.header.now.height == height) chain.commits.items
 
 -- a client that tracks the chain at a place has stored a record of this height
-unfoldable pub IsStored : Setup → List SeenClient → ℕ → ℕ → Type 0
+unfoldable pub IsStored : ImportSetup → List SeenClient → ℕ → ℕ → Type 0
 IsStored setup clients place height =
     (i : ℕ) × (c : ClientSetup) × (seen : SeenClient) × (slice_get setup.clients.items i ≡ Some c) × (slice_get clients i ≡ Some seen)
     × (c.tracks ≡ place) × Any (λ (s : Stored). s.state.now.height ≡ height) seen.stored.items
@@ -42,7 +42,7 @@ AreThose Has Other all those = All Has those × All (Contains all) those × All 
 
 -- of the heights of records that clients of the chain at a place have stored, and that have no header, these are the highest, as
 -- many as there is room for, by rising height
-unfoldable pub IsBookOf : Setup → List SeenClient → ℕ → SeenChain → List ℕ → Type 0
+unfoldable pub IsBookOf : ImportSetup → List SeenClient → ℕ → SeenChain → List ℕ → Type 0
 IsBookOf setup clients place chain book =
     (length book ≤ room_of chain)
     × IsStrictlyIncreasing book
@@ -55,7 +55,7 @@ AtEachPlace {X = X} {Y = Y} Holds xs ys =
     (length ys ≡ length xs) × ((i : ℕ) → (x : X) → (y : Y) → slice_get xs i ≡ Some x → slice_get ys i ≡ Some y → Holds i x y)
 
 -- each chain has its book
-abbrev pub AreBooks : Setup → List SeenChain → List SeenClient → List (Vec ℕ Global) → Type 0
+abbrev pub AreBooks : ImportSetup → List SeenChain → List SeenClient → List (Vec ℕ Global) → Type 0
 AreBooks setup chains clients books = AtEachPlace (λ place chain book. IsBookOf setup clients place chain book.items) chains books
 
 -- of the records of the client at a place these are those that the tracked chain's book has room for, in the records' order
@@ -66,11 +66,11 @@ AreKeptOf chains clients books number c kept =
     × (kept ≡ filter (λ (s : Stored). is_kept chain book.items s.state.now.height) seen.stored.items)
 
 -- each client has those of its records
-abbrev pub AreKept : Setup → List SeenChain → List SeenClient → List (Vec ℕ Global) → List (Vec Stored Global) → Type 0
+abbrev pub AreKept : ImportSetup → List SeenChain → List SeenClient → List (Vec ℕ Global) → List (Vec Stored Global) → Type 0
 AreKept setup chains clients books records = AtEachPlace (λ number c kept. AreKeptOf chains clients books number c kept.items) setup.clients.items records
 
 -- each chain has a book, and each client those of its records that there is room for
-abbrev pub FitBooks : Setup → List SeenChain → List SeenClient → List (Vec Stored Global) → Type 0
+abbrev pub FitBooks : ImportSetup → List SeenChain → List SeenClient → List (Vec Stored Global) → Type 0
 FitBooks setup chains clients records = (books : List (Vec ℕ Global)) × AreBooks setup chains clients books × AreKept setup chains clients books records
 
 -- ---- headers

@@ -5,11 +5,11 @@ use Rattle.std.specs.List.{list_any}
 use Rattle.std.specs.List.Sorted.{IsSorted, IsStrictlyIncreasing}
 use Rattle.std.specs.Str.{bytes_eq}
 use Rattle.rb_valset.specs.ValidatorSet.{set_hash}
-use Rattle.rb_import_answers.specs.declared.client.ClientState.{ClientState}
+use Rattle.rb_import_answers.specs.declared.client.TendermintClientState.{TendermintClientState}
 use Rattle.rb_import_answers.specs.declared.packets.PacketPage.{PacketPage}
 use Rattle.rb_import_setup.specs.declared.setup.ClientSetup.{ClientSetup}
 use Rattle.rb_import_setup.specs.declared.setup.PathSetup.{PathSetup}
-use Rattle.rb_import_setup.specs.declared.setup.Setup.{Setup}
+use Rattle.rb_import_setup.specs.declared.setup.ImportSetup.{ImportSetup}
 use Rattle.rb_import_check.specs.declared.chain.Commit.{Commit}
 use Rattle.rb_import_check.specs.declared.chain.SeenChain.{SeenChain}
 use Rattle.rb_import_check.specs.declared.client.SeenClient.{SeenClient}
@@ -28,7 +28,7 @@ use Rattle.rb_import_check.specs.Verdicts.{AreVerdictsOn}
 use Rattle.rb_import_merge.specs.declared.kept.KeptSets.{KeptSets}
 use Rattle.rb_import_merge.specs.declared.packets.SeenPacket.{SeenPacket}
 use Rattle.rb_import_merge.specs.declared.path.SeenPath.{SeenPath}
-use Rattle.rb_import_merge.specs.declared.seen.Seen.{Seen}
+use Rattle.rb_import_merge.specs.declared.seen.SeenSetup.{SeenSetup}
 use Rattle.rb_import_merge.specs.declared.surplus.Surplus.{Surplus}
 use Rattle.rb_import_merge.specs.Committed.{HaveCommitted}
 use Rattle.rb_import_merge.specs.LeftOut.{AreLeftOut, HasSurplus, HaveTaken, was_timed_out}
@@ -89,12 +89,12 @@ AreRecordsOf tracked saved stored =
 abbrev pub IsSeenClient : List (List ℕ) → Option SeenChain → ClientSetup → List Saved → SeenClient → Type 0
 IsSeenClient chains tracked c saved client =
     JudgesAs c (client_states_of saved) client
-    × (option_to_list client.latest ≡ map (λ (s : ClientState). s.latest) (client_states_of saved))
+    × (option_to_list client.latest ≡ map (λ (s : TendermintClientState). s.latest) (client_states_of saved))
     × IsSomeAnd (slice_get chains c.tracks) (λ id. AreStatesOn id saved × AreRecordsOf id saved client.stored.items)
     × AgreesWithChain tracked client.stored.items × AreOfClient saved
 
 -- each of these is what was seen of the client at its place
-abbrev pub AreSeenClients : Setup → List (Vec Saved Global) → List SeenChain → List SeenClient → Type 0
+abbrev pub AreSeenClients : ImportSetup → List (Vec Saved Global) → List SeenChain → List SeenClient → Type 0
 AreSeenClients setup answers seen clients =
     AtEachPlace (λ i c client. IsSeenClient setup.chains.items (slice_get seen c.tracks) c (answers_at answers i) client) setup.clients.items clients
 
@@ -125,11 +125,11 @@ IsSeenPath chains path saved seen =
     × (seen.timed_out ≡ was_timed_out path saved) × AreWholeSearches saved
 
 -- each of these is what was seen of the path at its place
-abbrev pub AreSeenPaths : Setup → List (Vec Saved Global) → List SeenPath → Type 0
+abbrev pub AreSeenPaths : ImportSetup → List (Vec Saved Global) → List SeenPath → Type 0
 AreSeenPaths setup answers paths = AtEachPlace (λ i path seen. IsSeenPath setup.chains.items path (answers_at answers i) seen) setup.paths.items paths
 
 -- this was seen of the setup's chains, clients and paths in their answers; books have room for the records, and for the sets that are kept
-unfoldable pub IsSeenIn : Setup → Signatures → SavedAnswers → Seen → Type 0
+unfoldable pub IsSeenIn : ImportSetup → Signatures → SavedAnswers → SeenSetup → Type 0
 IsSeenIn setup signatures answers seen =
     AtEachPlace (λ i id chain. IsSeenChain id signatures (answers_at answers.chains.items i) chain) setup.chains.items seen.chains.items
     × AtEachPlace (λ i chain surplus. surplus ≡ surplus_of (answers_at answers.chains.items i) chain) seen.chains.items seen.surplus.items
@@ -139,8 +139,8 @@ IsSeenIn setup signatures answers seen =
     × AreSeenPaths setup answers.paths.items seen.paths.items
 
 -- this holds of what was seen
-abbrev pub HoldsOfSeen : Setup → Signatures → SavedAnswers → (Seen → Type 0) → Type 0
-HoldsOfSeen setup signatures answers Holds = (seen : Seen) × IsSeenIn setup signatures answers seen × Holds seen
+abbrev pub HoldsOfSeen : ImportSetup → Signatures → SavedAnswers → (SeenSetup → Type 0) → Type 0
+HoldsOfSeen setup signatures answers Holds = (seen : SeenSetup) × IsSeenIn setup signatures answers seen × Holds seen
 
 -- ---- what is kept of it, and what is left out
 

@@ -3,7 +3,7 @@ use Rattle.std.specs.Prelude.{◌≡◌, ◌⊎◌, ◌-◌, ◌↔◌, ℕ, Lis
 use Rattle.std.specs.Global.{Global}
 use Rattle.std.specs.List.Sorted.{IsStrictlyIncreasing}
 use Rattle.rb_import_setup.specs.declared.setup.ClientSetup.{ClientSetup}
-use Rattle.rb_import_setup.specs.declared.setup.Setup.{Setup}
+use Rattle.rb_import_setup.specs.declared.setup.ImportSetup.{ImportSetup}
 use Rattle.rb_import_check.specs.declared.chain.Commit.{Commit}
 use Rattle.rb_import_check.specs.declared.chain.SeenChain.{SeenChain}
 use Rattle.rb_import_check.specs.declared.client.Stored.{Stored}
@@ -20,13 +20,13 @@ abbrev pub NamesNext : List SeenSet → ℕ → Stored → Type 0
 NamesNext sets p s = IsPlaceOf sets s.state.now.next p
 
 -- a written record of a client that tracks the chain at a place names the set at place p as that of the next validators
-unfoldable pub IsNextOfRecord : Setup → List (Vec Stored Global) → ℕ → List SeenSet → ℕ → Type 0
+unfoldable pub IsNextOfRecord : ImportSetup → List (Vec Stored Global) → ℕ → List SeenSet → ℕ → Type 0
 IsNextOfRecord setup records place sets p =
     (i : ℕ) × (c : ClientSetup) × (written : Vec Stored Global) × (slice_get setup.clients.items i ≡ Some c) × (slice_get records i ≡ Some written)
     × (c.tracks ≡ place) × Any (NamesNext sets p) written.items
 
 -- of the sets that were seen of the chain at a place, the one at place p is named: by a header of the chain, or by a written record
-abbrev pub IsNamed : Setup → List (Vec Stored Global) → ℕ → SeenChain → ℕ → Type 0
+abbrev pub IsNamed : ImportSetup → List (Vec Stored Global) → ℕ → SeenChain → ℕ → Type 0
 IsNamed setup records place chain p =
     Any (NamesSet chain.sets.sets.items p) chain.commits.items ⊎ IsNextOfRecord setup records place chain.sets.sets.items p
 
@@ -39,7 +39,7 @@ unfoldable pub KeepsHighestOf : (ℕ → Type 0) → KeptSets → Type 0
 KeepsHighestOf Has kept = (places : List ℕ) × IsStrictlyIncreasing places × ((p : ℕ) → Contains places p ↔ Has p) × KeepsHighest places kept
 
 -- of the sets of the chain at a place that are named, the highest are kept
-abbrev pub AreKeptSets : Setup → List (Vec Stored Global) → ℕ → SeenChain → KeptSets → Type 0
+abbrev pub AreKeptSets : ImportSetup → List (Vec Stored Global) → ℕ → SeenChain → KeptSets → Type 0
 AreKeptSets setup records place chain kept = KeepsHighestOf (IsNamed setup records place chain) kept
 
 -- the places that have a property came to these

@@ -24,6 +24,6 @@ pub use left_out::{LeftOutPacket, PacketLack};
 pub use packets::{Searches, SeenPacket, expiry_at, searches_of};
 pub use path::{SeenPath, seen_path};
 pub use pending::{first_of, is_pending};
-pub use seen::{Seen, answers_at, seen_in};
+pub use seen::{SeenSetup, answers_at, seen_in};
 pub use sources::{OtherSource, other_source};
 pub use surplus::{MAX_PACKETS, Surplus};

@@ -5,7 +5,7 @@ ghost use Rattle.rb_import_merge.specs.Room.{is_kept, AreBooks, AreKept, AreKept
 
 use rb_book::MAX_RECORDS;
 use rb_import_check::{SeenChain, SeenClient, Stored};
-use rb_import_setup::{ClientSetup, Setup};
+use rb_import_setup::{ClientSetup, ImportSetup};
 use std::alloc::{AllocError, Global};
 
 /// How many headers of a chain its book has no room for.
@@ -43,7 +43,7 @@ pub fn with_room<'a>(alloc: Global, chain: SeenChain<'a>) -> Result<SeenChain<'a
 /// Of each client the stored records that the book of the chain that it tracks has room for.
 pub fn kept_records<'a>(
     alloc: Global,
-    setup: &Setup,
+    setup: &ImportSetup,
     chains: &[SeenChain<'a>],
     clients: &[SeenClient<'a>],
 ) -> Result<Vec<Vec<Stored<'a>>>, AllocError>
@@ -57,7 +57,7 @@ pub fn kept_records<'a>(
 /// Of each chain the heights of stored records that its book has room for, beside its headers.
 fn books_of(
     alloc: Global,
-    setup: &Setup,
+    setup: &ImportSetup,
     chains: &[SeenChain<'_>],
     clients: &[SeenClient<'_>],
 ) -> Result<Vec<Vec<u64>>, AllocError>
@@ -75,7 +75,7 @@ fn books_of(
 /// of those without a header the highest, by rising height.
 fn book_of(
     alloc: Global,
-    setup: &Setup,
+    setup: &ImportSetup,
     clients: &[SeenClient<'_>],
     place: usize,
     chain: &SeenChain<'_>,
@@ -92,7 +92,7 @@ fn book_of(
 /// The heights of records that clients of the chain at a place have stored.
 fn heights_of(
     alloc: Global,
-    setup: &Setup,
+    setup: &ImportSetup,
     clients: &[SeenClient<'_>],
     place: usize,
 ) -> Result<Vec<u64>, AllocError>
@@ -166,7 +166,7 @@ pub fn highest(alloc: Global, heights: Vec<u64>, room: usize) -> Result<Vec<u64>
 /// Of each client the stored records that the book of the chain that it tracks, one of these, has room for.
 fn records_of<'a>(
     alloc: Global,
-    setup: &Setup,
+    setup: &ImportSetup,
     chains: &[SeenChain<'a>],
     clients: &[SeenClient<'a>],
     books: &[Vec<u64>],

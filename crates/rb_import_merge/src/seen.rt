@@ -17,14 +17,14 @@ use rb_import_check::{
     CheckError, ImportError, Saved, SavedAnswers, SeenChain, SeenClient, Signatures, Stored,
     judge_records, seen_chain, seen_client,
 };
-use rb_import_setup::{ClientSetup, Setup};
+use rb_import_setup::{ClientSetup, ImportSetup};
 use std::alloc::{AllocError, Global};
 
 /// What was seen of the chains, clients and paths of a setup, in its order. Of each chain there are the headers and
 /// the sets that its book has room for, and how many headers it hasn't; of each client the stored records that the
 /// book of the chain that it tracks has room for.
 #[derive(Drop)]
-pub struct Seen<'a> {
+pub struct SeenSetup<'a> {
     pub chains: Vec<SeenChain<'a>>,
     pub surplus: Vec<usize>,
     pub sets: Vec<KeptSets>,
@@ -33,7 +33,7 @@ pub struct Seen<'a> {
     pub paths: Vec<SeenPath<'a>>,
 }
 
-impl Seen<'_> {
+impl SeenSetup<'_> {
     ghost use Rattle.std.specs.Prelude.{◌↔◌, IsTrue, get_or};
     ghost use Rattle.rb_import_merge.specs.Seen.{IsWrittenOf, LacksHeaders, WasSeenOf, is_written, left_out, sets_left_out};
 
@@ -94,7 +94,7 @@ impl Seen<'_> {
 }
 
 /// Whether the set of this hash is one of the kept sets of the chain at a place.
-fn has_written(seen: &Seen<'_>, place: usize, hash: &[u8; 32]) -> bool
+fn has_written(seen: &SeenSetup<'_>, place: usize, hash: &[u8; 32]) -> bool
     ensures { IsTrue result ↔ IsWrittenOf seen.now.chains.items seen.now.sets.items place hash.now }
 {
     match (seen.chains.get(place), seen.sets.get(place)) {
@@ -118,10 +118,10 @@ fn has_kept(chain: &SeenChain<'_>, kept: &KeptSets, hash: &[u8; 32]) -> bool
 /// client has one with headers of a chain that is refused. `NoMemory` comes where a growth is refused.
 pub fn seen_in<'a>(
     alloc: Global,
-    setup: &'a Setup,
+    setup: &'a ImportSetup,
     signatures: Signatures,
     answers: &'a SavedAnswers,
-) -> Result<Seen<'a>, ImportErrors<'a>>
+) -> Result<SeenSetup<'a>, ImportErrors<'a>>
     ensures seen { IfOk result (IsSeenIn setup.entry.now signatures answers.entry.now) }
     ensures reason { IfErr result (OfEach (HasReasonIn setup.entry.now answers.entry.now)) }
     ensures names { IfErr result (OfEach (λ e. ¬ IsTooBig e)) }
@@ -139,7 +139,7 @@ pub fn seen_in<'a>(
     let (chains, surplus) = parts;
     let records = kept_records(alloc, setup, chains.as_slice(), clients.as_slice())?;
     let sets = kept_sets(alloc, setup, chains.as_slice(), records.as_slice())?;
-    Ok(Seen {
+    Ok(SeenSetup {
         chains,
         surplus,
         sets,
@@ -153,7 +153,7 @@ pub fn seen_in<'a>(
 /// answers are refused.
 fn judged_chains<'a>(
     alloc: Global,
-    setup: &'a Setup,
+    setup: &'a ImportSetup,
     signatures: Signatures,
     answers: &'a SavedAnswers,
 ) -> Result<Vec<Result<(SeenChain<'a>, usize), ImportError<'a>>>, AllocError>
@@ -185,7 +185,7 @@ fn fitting_chain<'a>(
 }
 
 /// The identifier of the chain at a place.
-fn chain_at(setup: &Setup, place: usize) -> &ChainId
+fn chain_at(setup: &ImportSetup, place: usize) -> &ChainId
     requires { place < length setup.now.chains.items }
     ensures { slice_get setup.now.chains.items place ≡ Some result.now }
 {
@@ -195,7 +195,7 @@ fn chain_at(setup: &Setup, place: usize) -> &ChainId
 /// What was seen of each client, beside these chains; or why its answers are refused.
 fn judged_clients<'a>(
     alloc: Global,
-    setup: &'a Setup,
+    setup: &'a ImportSetup,
     answers: &'a SavedAnswers,
     chains: &[Result<(SeenChain<'a>, usize), ImportError<'a>>],
 ) -> Result<Vec<Result<SeenClient<'a>, ImportError<'a>>>, AllocError>
@@ -213,7 +213,7 @@ fn judged_clients<'a>(
 /// What was seen of a client, beside these chains.
 fn judged_client<'a>(
     alloc: Global,
-    setup: &'a Setup,
+    setup: &'a ImportSetup,
     answers: &'a SavedAnswers,
     chains: &[Result<(SeenChain<'a>, usize), ImportError<'a>>],
     client: &'a ClientSetup,
@@ -250,7 +250,7 @@ fn judge_client<'a>(
 /// What was seen of each path, or why its answers are refused.
 fn judged_paths<'a>(
     alloc: Global,
-    setup: &'a Setup,
+    setup: &'a ImportSetup,
     answers: &'a SavedAnswers,
 ) -> Result<Vec<Result<SeenPath<'a>, ImportError<'a>>>, AllocError>
     ensures { IfOk result (λ paths. AreJudgedPaths setup.entry.now answers.entry.now paths.items) }

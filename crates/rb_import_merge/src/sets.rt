@@ -8,13 +8,13 @@ ghost use Rattle.rb_import_merge.specs.Sets.{AreKeptSets, Gains, IsNamed, IsNext
 use crate::kept::KeptSets;
 use rb_book::MAX_SETS;
 use rb_import_check::{SeenChain, SeenSets, Stored};
-use rb_import_setup::Setup;
+use rb_import_setup::ImportSetup;
 use std::alloc::{AllocError, Global};
 
 /// Of each chain the sets that its headers and the records of its clients name, and that its book has room for.
 pub fn kept_sets<'a>(
     alloc: Global,
-    setup: &Setup,
+    setup: &ImportSetup,
     chains: &[SeenChain<'a>],
     records: &[Vec<Stored<'a>>],
 ) -> Result<Vec<KeptSets>, AllocError>
@@ -45,7 +45,7 @@ fn highest_of(alloc: Global, named: Vec<usize>) -> Result<KeptSets, AllocError>
 /// The places of the sets that the headers of the chain at a place name, and the records of its clients.
 fn named_places(
     alloc: Global,
-    setup: &Setup,
+    setup: &ImportSetup,
     records: &[Vec<Stored<'_>>],
     place: usize,
     chain: &SeenChain<'_>,
@@ -71,7 +71,7 @@ fn add_of_headers(chain: &SeenChain<'_>, places: &mut Vec<usize>) -> Result<(), 
 
 /// Adds the places of the sets that records of clients name which track the chain at a place.
 fn add_of_clients(
-    setup: &Setup,
+    setup: &ImportSetup,
     records: &[Vec<Stored<'_>>],
     place: usize,
     sets: &SeenSets<'_>,

@@ -12,7 +12,7 @@ use Rattle.rb_valset.specs.ValidatorSet.{set_hash}
 use Rattle.rb_import_check.specs.declared.chain.SeenChain.{SeenChain}
 use Rattle.rb_import_check.specs.declared.sets.SeenSet.{SeenSet}
 use Rattle.rb_import_check.specs.Sets.{WasSeen}
-use Rattle.rb_import_merge.specs.declared.seen.Seen.{Seen}
+use Rattle.rb_import_merge.specs.declared.seen.SeenSetup.{SeenSetup}
 use Rattle.rb_import_merge.specs.Seen.{WasSeenOf}
 use Rattle.rb_import_notices.specs.Missing.{was_seen}
 
@@ -28,6 +28,6 @@ decides_seen (Some c) hash =
     decides_any (λ (s : SeenSet). bytes_eq (set_hash s.set) hash) (λ (s : SeenSet). set_hash s.set ≡ hash) (λ s. bytes_eq-Decides (set_hash s.set) hash) c.sets.sets.items
 decides_seen None hash = ((λ e. absurd (true≢false (sym e))), λ w. absurd w)
 
-pub was_seen-is : (r : Bool) (seen : Seen) (place : ℕ) (hash : List ℕ) → Decides r (WasSeenOf seen.chains.items place hash) → r ≡ was_seen (slice_get seen.chains.items place) hash
+pub was_seen-is : (r : Bool) (seen : SeenSetup) (place : ℕ) (hash : List ℕ) → Decides r (WasSeenOf seen.chains.items place hash) → r ≡ was_seen (slice_get seen.chains.items place) hash
 was_seen-is r seen place hash decides =
     same_from_decides r (was_seen (slice_get seen.chains.items place) hash) decides (decides_seen (slice_get seen.chains.items place) hash)

@@ -3,7 +3,7 @@
 use Rattle.std.specs.Prelude.{ℕ, List, Bool, not, Option, count_by, filter, map, max, option_map}
 use Rattle.std.specs.List.{reduce}
 use Rattle.rb_import_check.specs.declared.chain.Commit.{Commit}
-use Rattle.rb_import_merge.specs.declared.seen.Seen.{Seen}
+use Rattle.rb_import_merge.specs.declared.seen.SeenSetup.{SeenSetup}
 use Rattle.rb_import_notices.specs.declared.notice.Notice.{Notice}
 use Rattle.rb_import_notices.specs.declared.notice.Notice.TheVariants.{NotCanonical}
 use Rattle.rb_import_notices.specs.Headers.{commits_of}
@@ -23,5 +23,5 @@ abbrev not_canonical_in : ℕ → List Commit → Option Notice
 not_canonical_in chain commits = option_map (λ highest. NotCanonical chain (uncanonical_in commits) highest) (highest_in commits)
 
 -- a chain of which some commits aren't canonical: how many, and the greatest height of these
-abbrev pub not_canonical : Seen → ℕ → Option Notice
+abbrev pub not_canonical : SeenSetup → ℕ → Option Notice
 not_canonical seen chain = not_canonical_in chain (commits_of seen chain)

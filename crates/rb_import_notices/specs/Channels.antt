@@ -2,7 +2,7 @@
 use Rattle.std.specs.Prelude.{◌&&◌, ℕ, Bool, false, not, is_some, if◌then◌else◌, List, Option, Some, None, String, slice_get, string_bytes}
 use Rattle.std.specs.Global.{Global}
 use Rattle.rb_import_setup.specs.declared.setup.PathSetup.{PathSetup}
-use Rattle.rb_import_setup.specs.declared.setup.Setup.{Setup}
+use Rattle.rb_import_setup.specs.declared.setup.ImportSetup.{ImportSetup}
 use Rattle.rb_import_check.specs.declared.saved.Saved.{Saved}
 use Rattle.rb_import_check.specs.declared.saved.SavedAnswers.{SavedAnswers}
 use Rattle.rb_import_merge.specs.Seen.{answers_at}
@@ -20,7 +20,7 @@ abbrev pub is_of_others : PathSetup → List Saved → Bool
 is_of_others path saved = is_other_than path.source_channel saved
 
 -- such a path
-abbrev pub other_channel : Setup → SavedAnswers → ℕ → Option Notice
+abbrev pub other_channel : ImportSetup → SavedAnswers → ℕ → Option Notice
 other_channel setup answers place = do
   path ← slice_get setup.paths.items place
   if is_of_others path (answers_at answers.paths.items place) then Some (OtherChannel place) else None

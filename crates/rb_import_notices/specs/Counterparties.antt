@@ -4,7 +4,7 @@ use Rattle.std.specs.List.{list_any}
 use Rattle.std.specs.Str.{bytes_eq}
 use Rattle.rb_import_answers.specs.declared.packets.PacketEvent.{PacketEvent}
 use Rattle.rb_import_setup.specs.declared.setup.PathSetup.{PathSetup}
-use Rattle.rb_import_setup.specs.declared.setup.Setup.{Setup}
+use Rattle.rb_import_setup.specs.declared.setup.ImportSetup.{ImportSetup}
 use Rattle.rb_import_check.specs.declared.saved.SavedAnswers.{SavedAnswers}
 use Rattle.rb_import_merge.specs.Packets.{events_of, is_sending}
 use Rattle.rb_import_merge.specs.Seen.{answers_at}
@@ -22,7 +22,7 @@ has_several path events =
     not (is_some path.counterparty) && list_any (λ (one : PacketEvent). is_sending path one && list_any (is_sent_elsewhere path one) events) events
 
 -- such a path
-abbrev pub sent_to_several : Setup → SavedAnswers → ℕ → Option Notice
+abbrev pub sent_to_several : ImportSetup → SavedAnswers → ℕ → Option Notice
 sent_to_several setup answers place = do
   path ← slice_get setup.paths.items place
   if has_several path (events_of (answers_at answers.paths.items place)) then Some (SeveralCounterparties place) else None

@@ -3,7 +3,7 @@ use Rattle.std.specs.Prelude.{◌==◌, ℕ, Bool, not, if◌then◌else◌, Lis
 use Rattle.std.specs.List.{list_all}
 use Rattle.rb_import_check.specs.declared.client.SeenClient.{SeenClient}
 use Rattle.rb_import_check.specs.declared.client.Stored.{Stored}
-use Rattle.rb_import_merge.specs.declared.seen.Seen.{Seen}
+use Rattle.rb_import_merge.specs.declared.seen.SeenSetup.{SeenSetup}
 use Rattle.rb_import_notices.specs.declared.notice.Notice.{Notice}
 use Rattle.rb_import_notices.specs.declared.notice.Notice.TheVariants.{MissingLatest}
 use Rattle.rb_import_notices.specs.Steps.{◌>>=◌}
@@ -13,7 +13,7 @@ abbrev pub lacks_record : List Stored → ℕ → Bool
 lacks_record records height = list_all (λ (s : Stored). not (s.state.now.height == height)) records
 
 -- a client whose state names a latest height, of which it has no record, and that height
-abbrev pub missing_latest : Seen → ℕ → Option Notice
+abbrev pub missing_latest : SeenSetup → ℕ → Option Notice
 missing_latest seen client = do
   told ← slice_get seen.clients.items client
   height ← told.latest

@@ -5,7 +5,7 @@ use Rattle.rb_import_check.specs.declared.saved.Saved.{Saved}
 use Rattle.rb_import_check.specs.declared.saved.SavedAnswers.{SavedAnswers}
 use Rattle.rb_import_merge.specs.declared.left_out.LeftOutPacket.{LeftOutPacket}
 use Rattle.rb_import_merge.specs.declared.path.SeenPath.{SeenPath}
-use Rattle.rb_import_merge.specs.declared.seen.Seen.{Seen}
+use Rattle.rb_import_merge.specs.declared.seen.SeenSetup.{SeenSetup}
 use Rattle.rb_import_merge.specs.Seen.{answers_at}
 use Rattle.rb_import_notices.specs.declared.notice.Notice.{Notice}
 use Rattle.rb_import_notices.specs.declared.notice.Notice.TheVariants.{MorePackets, PacketLeftOut}
@@ -27,7 +27,7 @@ abbrev pub packet_left_out : List Saved → ℕ → LeftOutPacket → Notice
 packet_left_out saved path p = PacketLeftOut path p.sequence p.lack (answer_of saved p.file.now)
 
 -- a notice for each of these
-abbrev pub packets_left_out : SavedAnswers → Seen → ℕ → List Notice
+abbrev pub packets_left_out : SavedAnswers → SeenSetup → ℕ → List Notice
 packets_left_out answers seen path =
     map (packet_left_out (answers_at answers.paths.items path) path) (told_of (left_out_in (slice_get seen.paths.items path)))
 
@@ -35,5 +35,5 @@ abbrev more_in : ℕ → List LeftOutPacket → Option Notice
 more_in path packets = option_map (λ (next : LeftOutPacket). MorePackets path (length packets - 100) next.sequence) (slice_get packets 100)
 
 -- a path with more such packets: how many, and the least sequence of these
-abbrev pub more_packets : Seen → ℕ → Option Notice
+abbrev pub more_packets : SeenSetup → ℕ → Option Notice
 more_packets seen path = more_in path (left_out_in (slice_get seen.paths.items path))

@@ -5,13 +5,13 @@ use Rattle.rb_base.specs.Window.{Span}
 use Rattle.rb_plan_types.specs.declared.terms.Terms.{Terms}
 use Rattle.rb_plan_types.specs.Refresh.{needed_time}
 use Rattle.rb_import_setup.specs.declared.setup.ClientSetup.{ClientSetup}
-use Rattle.rb_import_setup.specs.declared.setup.Setup.{Setup}
+use Rattle.rb_import_setup.specs.declared.setup.ImportSetup.{ImportSetup}
 use Rattle.rb_import_setup.specs.declared.setup.TurnSetup.{TurnSetup}
 use Rattle.rb_import_setup.specs.Windows.{window_of}
 use Rattle.rb_import_check.specs.declared.chain.Commit.{Commit}
 use Rattle.rb_import_check.specs.declared.client.SeenClient.{SeenClient}
 use Rattle.rb_import_check.specs.declared.client.Stored.{Stored}
-use Rattle.rb_import_merge.specs.declared.seen.Seen.{Seen}
+use Rattle.rb_import_merge.specs.declared.seen.SeenSetup.{SeenSetup}
 use Rattle.rb_import_notices.specs.declared.notice.Notice.{Notice}
 use Rattle.rb_import_notices.specs.declared.notice.Notice.TheVariants.{NothingFresh}
 use Rattle.rb_import_notices.specs.Steps.{◌>>=◌}
@@ -35,7 +35,7 @@ abbrev pub are_stale : Terms → Span → List Commit → List Stored → Bool
 are_stale terms w commits records = are_stale_by terms w commits (slice_get records (length records - 1))
 
 -- a client that is due for a refresh in its window in the last turn, for which none of the headers serves of the chain that it tracks
-abbrev pub nothing_fresh : Setup → Seen → ℕ → Option Notice
+abbrev pub nothing_fresh : ImportSetup → SeenSetup → ℕ → Option Notice
 nothing_fresh setup seen client = do
   turn ← last_turn setup
   own ← slice_get setup.clients.items client

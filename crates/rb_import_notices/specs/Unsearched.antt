@@ -2,7 +2,7 @@
 use Rattle.std.specs.Prelude.{◌&&◌, ℕ, nat_lt, Bool, if◌then◌else◌, List, Option, Some, None, count_by, slice_get}
 use Rattle.rb_import_answers.specs.declared.packets.PacketKind.{PacketKind}
 use Rattle.rb_import_setup.specs.declared.setup.PathSetup.{PathSetup}
-use Rattle.rb_import_setup.specs.declared.setup.Setup.{Setup}
+use Rattle.rb_import_setup.specs.declared.setup.ImportSetup.{ImportSetup}
 use Rattle.rb_import_check.specs.declared.saved.Saved.{Saved}
 use Rattle.rb_import_check.specs.declared.saved.SavedAnswers.{SavedAnswers}
 use Rattle.rb_import_merge.specs.declared.packets.Searches.{Searches}
@@ -27,7 +27,7 @@ are_missing s = nat_lt s.empty (lacking s)
 
 -- a path whose first packet that isn't finished may be pending (it has a commitment, or no answer tells of commitments), and of which fewer answers are
 -- empty than kinds are lacking; and what its answers don't tell
-abbrev pub missing_searches : Setup → SavedAnswers → ℕ → Option Notice
+abbrev pub missing_searches : ImportSetup → SavedAnswers → ℕ → Option Notice
 missing_searches setup answers place = do
   path ← slice_get setup.paths.items place
   saved ← slice_get answers.paths.items place

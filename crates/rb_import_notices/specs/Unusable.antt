@@ -6,13 +6,13 @@ use Rattle.rb_script_types.specs.declared.script.Asked.{Asked}
 use Rattle.rb_script_types.specs.declared.goal.Goal.{Goal}
 use Rattle.rb_script_types.specs.declared.goal.Goal.TheVariants.{Exactly, AtLeast}
 use Rattle.rb_import_setup.specs.declared.setup.ClientSetup.{ClientSetup}
-use Rattle.rb_import_setup.specs.declared.setup.Setup.{Setup}
+use Rattle.rb_import_setup.specs.declared.setup.ImportSetup.{ImportSetup}
 use Rattle.rb_import_setup.specs.declared.setup.TurnSetup.{TurnSetup}
 use Rattle.rb_import_setup.specs.Windows.{window_of}
 use Rattle.rb_import_check.specs.declared.chain.Commit.{Commit}
 use Rattle.rb_import_check.specs.declared.chain.SeenChain.{SeenChain}
 use Rattle.rb_import_check.specs.declared.client.Stored.{Stored}
-use Rattle.rb_import_merge.specs.declared.seen.Seen.{Seen}
+use Rattle.rb_import_merge.specs.declared.seen.SeenSetup.{SeenSetup}
 use Rattle.rb_import_notices.specs.declared.notice.Notice.{Notice}
 use Rattle.rb_import_notices.specs.declared.notice.Notice.TheVariants.{FutureHeaders, NothingTrusted, UnseenGoal}
 use Rattle.rb_import_notices.specs.Steps.{◌>>=◌}
@@ -20,7 +20,7 @@ use Rattle.rb_import_notices.specs.Steps.{◌>>=◌}
 -- ---- the last turn
 
 -- the last turn, which has the events
-abbrev pub last_turn : Setup → Option TurnSetup
+abbrev pub last_turn : ImportSetup → Option TurnSetup
 last_turn setup = slice_get setup.turns.items (length setup.turns.items - 1)
 
 abbrev pub goals_in : Option TurnSetup → List Asked
@@ -28,7 +28,7 @@ goals_in (Some turn) = turn.goals.items
 goals_in None = []
 
 -- the goals of the last turn
-abbrev pub last_goals : Setup → List Asked
+abbrev pub last_goals : ImportSetup → List Asked
 last_goals setup = goals_in (last_turn setup)
 
 -- ---- clients whose records have expired
@@ -41,7 +41,7 @@ abbrev pub have_expired : ℕ → Span → List Stored → Bool
 have_expired period w records = list_all (has_expired period w) records
 
 -- a client whose written records have all expired at the end of its window in the last turn, and how many these are
-abbrev pub nothing_trusted : Setup → Seen → ℕ → Option Notice
+abbrev pub nothing_trusted : ImportSetup → SeenSetup → ℕ → Option Notice
 nothing_trusted setup seen client = do
   turn ← last_turn setup
   judging ← slice_get seen.clients.items client
@@ -62,7 +62,7 @@ abbrev pub lowest_ahead : ℕ → Span → List Commit → Option ℕ
 lowest_ahead drift w commits = reduce min (map (λ (c : Commit). c.header.now.height) (filter (is_from_future drift w) commits))
 
 -- a client with headers from the future, in its window in the last turn, of the chain that it tracks: how many, and the lowest height of these
-abbrev pub future_headers : Setup → Seen → ℕ → Option Notice
+abbrev pub future_headers : ImportSetup → SeenSetup → ℕ → Option Notice
 future_headers setup seen client = do
   turn ← last_turn setup
   own ← slice_get setup.clients.items client
@@ -94,7 +94,7 @@ is_missed goal commits records = not (length commits == 0) && is_unseen goal com
 
 -- a goal of the last turn whose client tracks a chain that has headers, and neither one of these nor a written record of the client is of a height that
 -- the goal wants
-abbrev pub unseen_goal : Setup → Seen → ℕ → Option Notice
+abbrev pub unseen_goal : ImportSetup → SeenSetup → ℕ → Option Notice
 unseen_goal setup seen place = do
   asked ← slice_get (last_goals setup) place
   client ← slice_get setup.clients.items asked.client

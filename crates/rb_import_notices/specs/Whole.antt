@@ -1,9 +1,9 @@
 -- All notices of a setup and of the answers that a script is made of.
 use Rattle.std.specs.Prelude.{◌≡◌, ℕ, List, [], ◌∷◌, Option, Some, None, length, option_to_list}
 use Rattle.std.specs.List.{flat_map, range_with_len}
-use Rattle.rb_import_setup.specs.declared.setup.Setup.{Setup}
+use Rattle.rb_import_setup.specs.declared.setup.ImportSetup.{ImportSetup}
 use Rattle.rb_import_check.specs.declared.saved.SavedAnswers.{SavedAnswers}
-use Rattle.rb_import_merge.specs.declared.seen.Seen.{Seen}
+use Rattle.rb_import_merge.specs.declared.seen.SeenSetup.{SeenSetup}
 use Rattle.rb_import_notices.specs.declared.notice.Kind.{Kind}
 use Rattle.rb_import_notices.specs.declared.notice.Notice.{Notice}
 use Rattle.rb_import_notices.specs.declared.notice.Notices.{Notices}
@@ -24,14 +24,14 @@ use Rattle.rb_import_notices.specs.Unusable.{future_headers, last_goals, nothing
 use Rattle.rb_import_notices.specs.Verified.{not_verified, unverified_commits}
 
 -- how many chains, clients or paths there are, or goals of the last turn
-abbrev pub places : Setup → Subject → ℕ
+abbrev pub places : ImportSetup → Subject → ℕ
 places setup Subject.Chain = length setup.chains.items
 places setup Subject.Client = length setup.clients.items
 places setup Subject.Path = length setup.paths.items
 places setup Subject.Goal = length (last_goals setup)
 
 -- the notices of a kind on the subject at a place that are due: one or none, and of the packets of a path that are left out one for each of the first
-abbrev pub notices_at : Setup → SavedAnswers → Seen → Kind → ℕ → List Notice
+abbrev pub notices_at : ImportSetup → SavedAnswers → SeenSetup → Kind → ℕ → List Notice
 notices_at setup answers seen Kind.MissingHeaders chain = option_to_list (missing_headers setup seen chain)
 notices_at setup answers seen Kind.MissingSets chain = option_to_list (missing_sets seen chain)
 notices_at setup answers seen Kind.UnsignedHeaders chain = option_to_list (unsigned_headers seen chain)
@@ -59,11 +59,11 @@ notices_at setup answers seen Kind.OthersOfClient client = option_to_list (other
 notices_at setup answers seen Kind.OthersOfPath path = option_to_list (others_of_path answers path)
 
 -- those of a kind, in the order of the setup
-abbrev pub notices_of_kind : Setup → SavedAnswers → Seen → Subject × Kind → List Notice
+abbrev pub notices_of_kind : ImportSetup → SavedAnswers → SeenSetup → Subject × Kind → List Notice
 notices_of_kind setup answers seen k = flat_map (notices_at setup answers seen k.1) (range_with_len 0 (places setup k.0))
 
 -- those of these kinds, one kind behind the other
-abbrev pub notices_of_kinds : Setup → SavedAnswers → Seen → List (Subject × Kind) → List Notice
+abbrev pub notices_of_kinds : ImportSetup → SavedAnswers → SeenSetup → List (Subject × Kind) → List Notice
 notices_of_kinds setup answers seen kinds = flat_map (notices_of_kind setup answers seen) kinds
 
 -- all kinds, in the order in which they are told, and what each is about
@@ -97,5 +97,5 @@ kinds =
     ∷ []
 
 -- these are all notices of a setup, its answers and what was seen in them: each that is due, once, in order
-abbrev pub AreNoticesOf : Setup → SavedAnswers → Seen → Notices → Type 0
+abbrev pub AreNoticesOf : ImportSetup → SavedAnswers → SeenSetup → Notices → Type 0
 AreNoticesOf setup answers seen n = n.list.items ≡ notices_of_kinds setup answers seen kinds

@@ -4,10 +4,10 @@ ghost use Rattle.rb_import_notices.specs.Canonical.{highest_in, is_uncanonical, 
 
 use crate::notice::Notice;
 use rb_import_check::Commit;
-use rb_import_merge::Seen;
+use rb_import_merge::SeenSetup;
 
 /// The chain at a place, where some of its commits aren't canonical.
-pub fn not_canonical(seen: &Seen<'_>, chain: usize) -> Option<Notice>
+pub fn not_canonical(seen: &SeenSetup<'_>, chain: usize) -> Option<Notice>
     ensures { result ≡ not_canonical seen.now chain }
 {
     let commits = seen.chains.get(chain)?.commits.as_slice();

@@ -5,10 +5,10 @@ ghost use Rattle.rb_import_notices.specs.Channels.{is_of_others, other_channel};
 use crate::notice::Notice;
 use rb_import_check::{Saved, SavedAnswers};
 use rb_import_merge::{answers_at, other_source};
-use rb_import_setup::{PathSetup, Setup};
+use rb_import_setup::{ImportSetup, PathSetup};
 
 /// The path at a place, where its answers tell of packets, but of none from the source that the setup names.
-pub fn other_channel(setup: &Setup, answers: &SavedAnswers, place: usize) -> Option<Notice>
+pub fn other_channel(setup: &ImportSetup, answers: &SavedAnswers, place: usize) -> Option<Notice>
     ensures { result ≡ other_channel setup.now answers.now place }
 {
     let path = setup.paths.get(place)?;

@@ -6,10 +6,10 @@ ghost use Rattle.rb_import_notices.specs.Counterparties.{has_several, sent_to_se
 use crate::notice::Notice;
 use rb_import_check::{Saved, SavedAnswers};
 use rb_import_merge::{answers_at, several_counterparties};
-use rb_import_setup::{PathSetup, Setup};
+use rb_import_setup::{ImportSetup, PathSetup};
 
 /// The path at a place, where packets from its source were sent to several destinations, and the setup names none.
-pub fn sent_to_several(setup: &Setup, answers: &SavedAnswers, place: usize) -> Option<Notice>
+pub fn sent_to_several(setup: &ImportSetup, answers: &SavedAnswers, place: usize) -> Option<Notice>
     ensures { result ≡ sent_to_several setup.now answers.now place }
 {
     let path = setup.paths.get(place)?;

@@ -4,10 +4,10 @@ ghost use Rattle.rb_import_notices.specs.Excess.{headers_without_set, lacks_set,
 
 use crate::notice::Notice;
 use rb_import_check::Commit;
-use rb_import_merge::Seen;
+use rb_import_merge::SeenSetup;
 
 /// The chain at a place, where headers of it are left out.
-pub fn too_many_headers(seen: &Seen<'_>, chain: usize) -> Option<Notice>
+pub fn too_many_headers(seen: &SeenSetup<'_>, chain: usize) -> Option<Notice>
     ensures { result ≡ too_many_headers seen.now chain }
 {
     match seen.headers_left_out(chain) {
@@ -17,7 +17,7 @@ pub fn too_many_headers(seen: &Seen<'_>, chain: usize) -> Option<Notice>
 }
 
 /// The chain at a place, where sets of it are left out.
-pub fn too_many_sets(seen: &Seen<'_>, chain: usize) -> Option<Notice>
+pub fn too_many_sets(seen: &SeenSetup<'_>, chain: usize) -> Option<Notice>
     ensures { result ≡ too_many_sets seen.now chain }
 {
     match seen.sets_left_out(chain) {
@@ -31,7 +31,7 @@ pub fn too_many_sets(seen: &Seen<'_>, chain: usize) -> Option<Notice>
 }
 
 /// How many headers of the chain at a place aren't written, since their sets aren't.
-fn headers_without_set(seen: &Seen<'_>, place: usize) -> usize
+fn headers_without_set(seen: &SeenSetup<'_>, place: usize) -> usize
     ensures { result ≡ headers_without_set seen.now place }
 {
     match seen.chains.get(place) {
@@ -45,14 +45,14 @@ fn headers_without_set(seen: &Seen<'_>, place: usize) -> usize
 }
 
 /// Whether the set of a commit's header isn't written of the chain at a place.
-fn lacks_set(seen: &Seen<'_>, place: usize, commit: &Commit<'_>) -> bool
+fn lacks_set(seen: &SeenSetup<'_>, place: usize, commit: &Commit<'_>) -> bool
     ensures { result ≡ lacks_set seen.now place commit.now }
 {
     !seen.is_written(place, &commit.header.set)
 }
 
 /// The client at a place, where some of its records are left out.
-pub fn too_many_records(seen: &Seen<'_>, client: usize) -> Option<Notice>
+pub fn too_many_records(seen: &SeenSetup<'_>, client: usize) -> Option<Notice>
     ensures { result ≡ too_many_records seen.now client }
 {
     match seen.left_out(client) {
@@ -62,7 +62,7 @@ pub fn too_many_records(seen: &Seen<'_>, client: usize) -> Option<Notice>
 }
 
 /// The path at a place, where it has no room for some of its packets.
-pub fn too_many_packets(seen: &Seen<'_>, path: usize) -> Option<Notice>
+pub fn too_many_packets(seen: &SeenSetup<'_>, path: usize) -> Option<Notice>
     ensures { result ≡ too_many_packets seen.now path }
 {
     let surplus = seen.paths.get(path)?.surplus?;

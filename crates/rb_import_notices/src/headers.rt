@@ -4,11 +4,11 @@ ghost use Rattle.rb_import_notices.specs.Headers.{counted, is_tracked, lacks_hea
 
 use crate::notice::Notice;
 use rb_import_check::Commit;
-use rb_import_merge::Seen;
-use rb_import_setup::Setup;
+use rb_import_merge::SeenSetup;
+use rb_import_setup::ImportSetup;
 
 /// The chain at a place, where a client tracks it and there is no header of it.
-pub fn missing_headers(setup: &Setup, seen: &Seen<'_>, chain: usize) -> Option<Notice>
+pub fn missing_headers(setup: &ImportSetup, seen: &SeenSetup<'_>, chain: usize) -> Option<Notice>
     ensures { result ≡ missing_headers setup.now seen.now chain }
 {
     let is_due = is_tracked(setup, chain) && lacks_headers(seen, chain);
@@ -16,14 +16,14 @@ pub fn missing_headers(setup: &Setup, seen: &Seen<'_>, chain: usize) -> Option<N
 }
 
 /// Whether a client tracks the chain at a place.
-fn is_tracked(setup: &Setup, chain: usize) -> bool
+fn is_tracked(setup: &ImportSetup, chain: usize) -> bool
     ensures { result ≡ is_tracked setup.now chain }
 {
     setup.clients.iter().any(|client| client.tracks == chain)
 }
 
 /// Whether no header was seen of the chain at a place.
-pub fn lacks_headers(seen: &Seen<'_>, chain: usize) -> bool
+pub fn lacks_headers(seen: &SeenSetup<'_>, chain: usize) -> bool
     ensures { result ≡ lacks_headers seen.now chain }
 {
     match seen.chains.get(chain) {
@@ -33,7 +33,7 @@ pub fn lacks_headers(seen: &Seen<'_>, chain: usize) -> bool
 }
 
 /// The chain at a place, where headers of it are left out for want of their sets.
-pub fn missing_sets(seen: &Seen<'_>, chain: usize) -> Option<Notice>
+pub fn missing_sets(seen: &SeenSetup<'_>, chain: usize) -> Option<Notice>
     ensures { result ≡ missing_sets seen.now chain }
 {
     let (headers, highest) = counted(seen.chains.get(chain)?.bare.as_slice())?;
@@ -45,7 +45,7 @@ pub fn missing_sets(seen: &Seen<'_>, chain: usize) -> Option<Notice>
 }
 
 /// The chain at a place, where headers of it are left out that too few validators signed.
-pub fn unsigned_headers(seen: &Seen<'_>, chain: usize) -> Option<Notice>
+pub fn unsigned_headers(seen: &SeenSetup<'_>, chain: usize) -> Option<Notice>
     ensures { result ≡ unsigned_headers seen.now chain }
 {
     let (headers, highest) = counted(seen.chains.get(chain)?.unsigned.as_slice())?;

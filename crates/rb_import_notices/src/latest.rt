@@ -4,10 +4,10 @@ ghost use Rattle.rb_import_notices.specs.Latest.{lacks_record, missing_latest};
 
 use crate::notice::Notice;
 use rb_import_check::Stored;
-use rb_import_merge::Seen;
+use rb_import_merge::SeenSetup;
 
 /// The client at a place, where its latest height isn't among its records.
-pub fn missing_latest(seen: &Seen<'_>, client: usize) -> Option<Notice>
+pub fn missing_latest(seen: &SeenSetup<'_>, client: usize) -> Option<Notice>
     ensures { result ≡ missing_latest seen.now client }
 {
     let told = seen.clients.get(client)?;

@@ -5,8 +5,8 @@ ghost use Rattle.rb_import_notices.specs.Missing.{is_left_out, is_unseen, left_o
 use crate::notice::Notice;
 use crate::starts::{Starts, starts_at};
 use rb_import_check::Stored;
-use rb_import_merge::Seen;
-use rb_import_setup::Setup;
+use rb_import_merge::SeenSetup;
+use rb_import_setup::ImportSetup;
 use std::fmt;
 
 /// Of how many records of a chain no answer has the next sets, and what to fetch for the highest; and of how many they are
@@ -44,7 +44,7 @@ impl fmt::Display for NextSets<'_> {
 }
 
 /// The client at a place, where the next sets of some of its written records that could be of use aren't written.
-pub fn missing_next_set(setup: &Setup, seen: &Seen<'_>, client: usize) -> Option<Notice>
+pub fn missing_next_set(setup: &ImportSetup, seen: &SeenSetup<'_>, client: usize) -> Option<Notice>
     ensures { result ≡ missing_next_set setup.now seen.now client }
 {
     let own = setup.clients.get(client)?;
@@ -80,7 +80,7 @@ fn next_sets_told(
 
 /// Of how many of these records, of these heights, no answer on the chain at a place has the next set.
 #[tactic(auto, unfolding(crate::specs::Missing::unseen_in))]
-fn unseen_in(seen: &Seen<'_>, chain: usize, starts: Starts, records: &[Stored<'_>]) -> usize
+fn unseen_in(seen: &SeenSetup<'_>, chain: usize, starts: Starts, records: &[Stored<'_>]) -> usize
     ensures { result ≡ unseen_in seen.now chain starts records.now }
 {
     records
@@ -91,7 +91,12 @@ fn unseen_in(seen: &Seen<'_>, chain: usize, starts: Starts, records: &[Stored<'_
 
 /// The height of the next set of the highest of those of these records whose next set no answer on the chain at a place has.
 #[tactic(auto, unfolding(crate::specs::Missing::next_in))]
-fn next_in(seen: &Seen<'_>, chain: usize, starts: Starts, records: &[Stored<'_>]) -> Option<u64>
+fn next_in(
+    seen: &SeenSetup<'_>,
+    chain: usize,
+    starts: Starts,
+    records: &[Stored<'_>],
+) -> Option<u64>
     ensures { result ≡ next_in seen.now chain starts records.now }
 {
     records
@@ -110,7 +115,7 @@ fn next_height(stored: &Stored<'_>) -> u64
 
 /// Of how many of these records, of these heights, the next set was seen of the chain at a place, and isn't written.
 #[tactic(auto, unfolding(crate::specs::Missing::left_out_in))]
-fn left_out_in(seen: &Seen<'_>, chain: usize, starts: Starts, records: &[Stored<'_>]) -> usize
+fn left_out_in(seen: &SeenSetup<'_>, chain: usize, starts: Starts, records: &[Stored<'_>]) -> usize
     ensures { result ≡ left_out_in seen.now chain starts records.now }
 {
     records
@@ -120,14 +125,14 @@ fn left_out_in(seen: &Seen<'_>, chain: usize, starts: Starts, records: &[Stored<
 }
 
 /// Whether a record is of these heights, and no answer on the chain at a place has its next set.
-fn is_unseen(seen: &Seen<'_>, chain: usize, starts: Starts, stored: &Stored<'_>) -> bool
+fn is_unseen(seen: &SeenSetup<'_>, chain: usize, starts: Starts, stored: &Stored<'_>) -> bool
     ensures { result ≡ is_unseen seen.now chain starts stored.now }
 {
     starts.has(stored) && !was_seen(seen, chain, &stored.state.next)
 }
 
 /// Whether a record is of these heights, and its next set was seen of the chain at a place, and isn't written.
-fn is_left_out(seen: &Seen<'_>, chain: usize, starts: Starts, stored: &Stored<'_>) -> bool
+fn is_left_out(seen: &SeenSetup<'_>, chain: usize, starts: Starts, stored: &Stored<'_>) -> bool
     ensures { result ≡ is_left_out seen.now chain starts stored.now }
 {
     starts.has(stored)
@@ -136,7 +141,7 @@ fn is_left_out(seen: &Seen<'_>, chain: usize, starts: Starts, stored: &Stored<'_
 }
 
 /// Whether the set of this hash was seen of the chain at a place.
-fn was_seen(seen: &Seen<'_>, chain: usize, hash: &[u8; 32]) -> bool
+fn was_seen(seen: &SeenSetup<'_>, chain: usize, hash: &[u8; 32]) -> bool
     ensures { result ≡ was_seen (slice_get seen.now.chains.items chain) hash.now }
 {
     seen.has_set(chain, hash)

@@ -21,8 +21,8 @@ use crate::unusable::{
 };
 use crate::verified::{not_verified, unverified_commits};
 use rb_import_check::SavedAnswers;
-use rb_import_merge::{PacketLack, Searches, Seen, Surplus, answers_at};
-use rb_import_setup::Setup;
+use rb_import_merge::{PacketLack, Searches, SeenSetup, Surplus, answers_at};
+use rb_import_setup::ImportSetup;
 use std::alloc::{AllocError, Global};
 use std::fmt;
 use thiserror::Error;
@@ -172,7 +172,7 @@ pub enum Notice {
 /// All notices of a setup and of its answers, in the order in which they are told. Shown as a line each.
 #[derive(Drop)]
 pub struct Notices<'a> {
-    pub setup: &'a Setup,
+    pub setup: &'a ImportSetup,
     pub answers: &'a SavedAnswers,
     pub list: Vec<Notice>,
 }
@@ -641,23 +641,23 @@ const KINDS: [(Subject, Kind); 25] = [
 
 /// Adds the notices of a setup, of its answers and of what was seen in them.
 #[derive(Clone, Copy)]
-struct Told<'a, 'b> {
-    setup: &'a Setup,
+struct NoticeSources<'a, 'b> {
+    setup: &'a ImportSetup,
     answers: &'a SavedAnswers,
-    seen: &'b Seen<'a>,
+    seen: &'b SeenSetup<'a>,
 }
 
 /// What isn't among the answers of which this was seen, what isn't written of it, and what can't be used or isn't sure.
 /// `AllocError` comes where a growth is refused.
 pub fn notices_of<'a>(
     alloc: Global,
-    setup: &'a Setup,
+    setup: &'a ImportSetup,
     answers: &'a SavedAnswers,
-    seen: &Seen<'a>,
+    seen: &SeenSetup<'a>,
 ) -> Result<Notices<'a>, AllocError>
     ensures { IfOk result (AreNoticesOf setup.entry.now answers.entry.now seen.now) }
 {
-    let told = Told {
+    let told = NoticeSources {
         setup,
         answers,
         seen,
@@ -670,7 +670,7 @@ pub fn notices_of<'a>(
     })
 }
 
-impl Told<'_, '_> {
+impl NoticeSources<'_, '_> {
     /// The notices of these kinds, one kind behind the other.
     fn of_kinds(&self, alloc: Global, kinds: &[(Subject, Kind)]) -> Result<Vec<Notice>, AllocError>
         ensures { IfOk result (λ list. list.items ≡ notices_of_kinds self.now.setup.now self.now.answers.now self.now.seen.now kinds.now) }
@@ -708,7 +708,7 @@ impl Told<'_, '_> {
     ) -> Result<(), AllocError>
         ensures { OnOk result (list.new.items ≡ list.old.items ++ notices_at self.now.setup.now self.now.answers.now self.now.seen.now kind place) }
     {
-        let Told {
+        let NoticeSources {
             setup,
             answers,
             seen,
@@ -744,7 +744,7 @@ impl Told<'_, '_> {
 }
 
 /// How many subjects of a sort there are.
-fn places(setup: &Setup, subject: Subject) -> usize
+fn places(setup: &ImportSetup, subject: Subject) -> usize
     ensures { result ≡ places setup.now subject }
 {
     match subject {

@@ -4,7 +4,7 @@ ghost use Rattle.rb_import_notices.specs.Packets.{answer_of, more_packets, packe
 
 use crate::notice::Notice;
 use rb_import_check::{Saved, SavedAnswers};
-use rb_import_merge::{LeftOutPacket, PacketLack, Seen, answers_at};
+use rb_import_merge::{LeftOutPacket, PacketLack, SeenSetup, answers_at};
 use std::alloc::AllocError;
 
 /// The most packets of a path that are told one by one.
@@ -43,7 +43,7 @@ pub fn lack_remedy(lack: PacketLack) -> &'static str {
 /// Adds the packets of the path at a place that are left out and told one by one.
 pub fn add_packets(
     answers: &SavedAnswers,
-    seen: &Seen<'_>,
+    seen: &SeenSetup<'_>,
     path: usize,
     list: &mut Vec<Notice>,
 ) -> Result<(), AllocError>
@@ -100,7 +100,7 @@ fn answer_of(saved: &[Saved], file: &str) -> Option<usize>
 }
 
 /// The path at a place, where more packets of it are left out than are told one by one.
-pub fn more_packets(seen: &Seen<'_>, path: usize) -> Option<Notice>
+pub fn more_packets(seen: &SeenSetup<'_>, path: usize) -> Option<Notice>
     ensures { result ≡ more_packets seen.now path }
 {
     let left_out = seen.paths.get(path)?.left_out.as_slice();

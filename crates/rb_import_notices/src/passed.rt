@@ -3,7 +3,7 @@ ghost use Rattle.std.specs.Prelude.{◌≡◌};
 ghost use Rattle.rb_import_notices.specs.Passed.{has_others, is_other, others_of_chain, others_of_client, others_of_path};
 
 use crate::notice::Notice;
-use rb_import_answers::{NodeAnswer, Query};
+use rb_import_answers::{NodeAnswer, OtherQuery};
 use rb_import_check::{Saved, SavedAnswers};
 use rb_import_merge::answers_at;
 use std::fmt;
@@ -17,7 +17,7 @@ pub struct Others<'a> {
 impl fmt::Display for Others<'_> {
     fn fmt<W: fmt::Write>(&self, f: &mut fmt::Formatter<W>) -> fmt::Result {
         let mut separator = " ";
-        for query in &Query::ALL {
+        for query in &OtherQuery::ALL {
             let path = query.path();
             let count = count_of(self.answers, path);
             if count > 0 {

@@ -5,12 +5,12 @@ ghost use Rattle.rb_import_notices.specs.Stale.{are_stale, none_serves, nothing_
 use crate::notice::Notice;
 use rb_base::{Moment, Window};
 use rb_import_check::{Commit, SeenClient, Stored};
-use rb_import_merge::Seen;
-use rb_import_setup::{ClientSetup, Setup};
+use rb_import_merge::SeenSetup;
+use rb_import_setup::{ClientSetup, ImportSetup};
 use rb_plan_types::{Terms, needed_time};
 
 /// The client at a place, where it is due for a refresh by the end of its window in the last turn, and no header serves.
-pub fn nothing_fresh(setup: &Setup, seen: &Seen<'_>, client: usize) -> Option<Notice>
+pub fn nothing_fresh(setup: &ImportSetup, seen: &SeenSetup<'_>, client: usize) -> Option<Notice>
     ensures { result ≡ nothing_fresh setup.now seen.now client }
 {
     let turn = setup.turns.last()?;

@@ -4,8 +4,8 @@ ghost use Rattle.std.specs.Option.{option_copied};
 ghost use Rattle.rb_import_notices.specs.Starts.{asked_in, asked_of, below_of, bound_by, has_written_next, highest_among, highest_of, highest_start, is_start, lower_start, starts_at};
 
 use rb_import_check::{Commit, Stored};
-use rb_import_merge::Seen;
-use rb_import_setup::{ClientSetup, Setup};
+use rb_import_merge::SeenSetup;
+use rb_import_setup::{ClientSetup, ImportSetup};
 use rb_script_types::{Asked, Goal};
 
 /// Heights above the first of these and below the second: there is no higher consensus state from which an update starts
@@ -27,7 +27,12 @@ impl Starts {
 }
 
 /// The heights between which the written records of the client at a place are of use.
-pub fn starts_at(setup: &Setup, seen: &Seen<'_>, place: usize, client: &ClientSetup) -> Starts
+pub fn starts_at(
+    setup: &ImportSetup,
+    seen: &SeenSetup<'_>,
+    place: usize,
+    client: &ClientSetup,
+) -> Starts
     ensures { result ≡ starts_at setup.now seen.now place client.now }
 {
     let chain = client.tracks;
@@ -40,7 +45,7 @@ pub fn starts_at(setup: &Setup, seen: &Seen<'_>, place: usize, client: &ClientSe
 }
 
 /// The goal of the client at a place in the last turn, if it has one.
-fn asked_of(setup: &Setup, place: usize) -> Option<Asked>
+fn asked_of(setup: &ImportSetup, place: usize) -> Option<Asked>
     ensures { result ≡ asked_of setup.now place }
 {
     match setup.turns.last() {
@@ -85,7 +90,7 @@ fn bound_by(goal: Goal, highest: u64) -> u64
 }
 
 /// The greatest height of the headers of the chain at a place, 0 if there are none.
-fn highest_of(seen: &Seen<'_>, chain: usize) -> u64
+fn highest_of(seen: &SeenSetup<'_>, chain: usize) -> u64
     ensures { result ≡ highest_of seen.now chain }
 {
     match seen.chains.get(chain) {
@@ -106,7 +111,7 @@ fn highest_among(commits: &[Commit<'_>]) -> Option<u64>
 }
 
 /// The greatest height of those of these records that are below a height and whose next set is written, 0 if there are none.
-fn lower_start(seen: &Seen<'_>, chain: usize, below: u64, records: &[Stored<'_>]) -> u64
+fn lower_start(seen: &SeenSetup<'_>, chain: usize, below: u64, records: &[Stored<'_>]) -> u64
     ensures { result ≡ lower_start seen.now chain below records.now }
 {
     highest_start(seen, chain, below, records).unwrap_or(0)
@@ -114,7 +119,12 @@ fn lower_start(seen: &Seen<'_>, chain: usize, below: u64, records: &[Stored<'_>]
 
 /// The greatest height of those of these records that are below a height and whose next set is written, if there are some.
 #[tactic(auto, unfolding(crate::specs::Starts::highest_start))]
-fn highest_start(seen: &Seen<'_>, chain: usize, below: u64, records: &[Stored<'_>]) -> Option<u64>
+fn highest_start(
+    seen: &SeenSetup<'_>,
+    chain: usize,
+    below: u64,
+    records: &[Stored<'_>],
+) -> Option<u64>
     ensures { result ≡ highest_start seen.now chain below records.now }
 {
     records
@@ -125,7 +135,7 @@ fn highest_start(seen: &Seen<'_>, chain: usize, below: u64, records: &[Stored<'_
 }
 
 /// Whether a record is below a height, and its next set is written of the chain at a place.
-fn has_written_next(seen: &Seen<'_>, chain: usize, below: u64, stored: &Stored<'_>) -> bool
+fn has_written_next(seen: &SeenSetup<'_>, chain: usize, below: u64, stored: &Stored<'_>) -> bool
     ensures { result ≡ has_written_next seen.now chain below stored.now }
 {
     stored.state.height.get() < below && seen.is_written(chain, &stored.state.next)

@@ -5,7 +5,7 @@ ghost use Rattle.rb_import_notices.specs.Unsearched.{are_missing, missing_search
 use crate::notice::Notice;
 use rb_import_check::{Saved, SavedAnswers};
 use rb_import_merge::{Searches, first_of, is_pending, searches_of};
-use rb_import_setup::Setup;
+use rb_import_setup::ImportSetup;
 
 /// The names of the events that are lacking, behind a space.
 pub fn lacking_names(searches: Searches) -> &'static str {
@@ -28,7 +28,7 @@ pub fn lacking_names(searches: Searches) -> &'static str {
 }
 
 /// The path at a place, where packets of it may be pending, and searches for them aren't there.
-pub fn missing_searches(setup: &Setup, answers: &SavedAnswers, place: usize) -> Option<Notice>
+pub fn missing_searches(setup: &ImportSetup, answers: &SavedAnswers, place: usize) -> Option<Notice>
     ensures { result ≡ missing_searches setup.now answers.now place }
 {
     let path = setup.paths.get(place)?;

@@ -6,8 +6,8 @@ ghost use Rattle.rb_import_notices.specs.Unusable.{count_ahead, future_headers, 
 use crate::notice::Notice;
 use rb_base::{Height, Period, Window};
 use rb_import_check::{Commit, Stored};
-use rb_import_merge::Seen;
-use rb_import_setup::Setup;
+use rb_import_merge::SeenSetup;
+use rb_import_setup::ImportSetup;
 use rb_script_types::{Asked, Goal};
 use std::fmt;
 
@@ -39,7 +39,7 @@ pub fn wanted_height(goal: Goal) -> (u64, &'static str) {
 }
 
 /// The client at a place, where none of its records is trusted to the end of its window in the last turn.
-pub fn nothing_trusted(setup: &Setup, seen: &Seen<'_>, client: usize) -> Option<Notice>
+pub fn nothing_trusted(setup: &ImportSetup, seen: &SeenSetup<'_>, client: usize) -> Option<Notice>
     ensures { result ≡ nothing_trusted setup.now seen.now client }
 {
     let turn = setup.turns.last()?;
@@ -71,7 +71,7 @@ fn has_expired(period: Period, window: &Window, stored: &Stored<'_>) -> bool
 }
 
 /// The client at a place, where it takes headers for such from the future at the beginning of its window in the last turn.
-pub fn future_headers(setup: &Setup, seen: &Seen<'_>, client: usize) -> Option<Notice>
+pub fn future_headers(setup: &ImportSetup, seen: &SeenSetup<'_>, client: usize) -> Option<Notice>
     ensures { result ≡ future_headers setup.now seen.now client }
 {
     let turn = setup.turns.last()?;
@@ -117,7 +117,7 @@ fn is_from_future(drift: u64, window: &Window, commit: &Commit<'_>) -> bool
 }
 
 /// The goals of the last turn.
-pub fn last_goals(setup: &Setup) -> &[Asked]
+pub fn last_goals(setup: &ImportSetup) -> &[Asked]
     ensures { result.now ≡ last_goals setup.now }
 {
     match setup.turns.last() {
@@ -128,7 +128,7 @@ pub fn last_goals(setup: &Setup) -> &[Asked]
 
 /// The goal at a place in the last turn, where nothing of its heights was seen. A chain without any header is told of by
 /// itself.
-pub fn unseen_goal(setup: &Setup, seen: &Seen<'_>, place: usize) -> Option<Notice>
+pub fn unseen_goal(setup: &ImportSetup, seen: &SeenSetup<'_>, place: usize) -> Option<Notice>
     ensures { result ≡ unseen_goal setup.now seen.now place }
 {
     let asked = last_goals(setup).get(place)?;

@@ -7,10 +7,10 @@ ghost use Rattle.rb_import_notices.specs.Verified.{is_unverified, not_verified, 
 use crate::headers::lacks_headers;
 use crate::notice::Notice;
 use rb_import_check::{Commit, SavedAnswers, has_verdicts};
-use rb_import_merge::{Seen, answers_at};
+use rb_import_merge::{SeenSetup, answers_at};
 
 /// The chain at a place, where its answers hold verdicts, but none on some commit.
-pub fn not_verified(answers: &SavedAnswers, seen: &Seen<'_>, chain: usize) -> Option<Notice>
+pub fn not_verified(answers: &SavedAnswers, seen: &SeenSetup<'_>, chain: usize) -> Option<Notice>
     ensures { result ≡ not_verified answers.now seen.now chain }
 {
     if !hold_verdicts(answers, chain) {
@@ -30,7 +30,7 @@ fn hold_verdicts(answers: &SavedAnswers, place: usize) -> bool
 }
 
 /// How many headers of the chain at a place have no verdict on their commits.
-fn unverified_at(seen: &Seen<'_>, place: usize) -> usize
+fn unverified_at(seen: &SeenSetup<'_>, place: usize) -> usize
     ensures { result ≡ unverified_at seen.now place }
 {
     match seen.chains.get(place) {
@@ -50,7 +50,11 @@ fn is_unverified(commit: &Commit<'_>) -> bool
 }
 
 /// The chain at a place, where it has headers and its answers hold no verdicts.
-pub fn unverified_commits(answers: &SavedAnswers, seen: &Seen<'_>, chain: usize) -> Option<Notice>
+pub fn unverified_commits(
+    answers: &SavedAnswers,
+    seen: &SeenSetup<'_>,
+    chain: usize,
+) -> Option<Notice>
     ensures { result ≡ unverified_commits answers.now seen.now chain }
 {
     let is_due = !lacks_headers(seen, chain) && !hold_verdicts(answers, chain);

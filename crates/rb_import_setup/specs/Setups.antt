@@ -10,7 +10,7 @@ use Rattle.rb_script_config.specs.Chains.{chain_ids}
 use Rattle.rb_script_config.specs.Tables.{top_keys}
 use Rattle.rb_script_types.specs.Limits.{max_chains, max_clients, max_paths, max_turns}
 use Rattle.rb_import_setup.specs.declared.setup.ClientSetup.{ClientSetup}
-use Rattle.rb_import_setup.specs.declared.setup.Setup.{Setup as CodeSetup}
+use Rattle.rb_import_setup.specs.declared.setup.ImportSetup.{ImportSetup as CodeImportSetup}
 use Rattle.rb_import_setup.specs.declared.reading.Tables.{Tables as CodeTables}
 use Rattle.rb_import_setup.specs.Chains.{chain}
 use Rattle.rb_import_setup.specs.Clients.{client}
@@ -19,14 +19,14 @@ use Rattle.rb_import_setup.specs.Senders.{Sender, sender_of, sender_view}
 use Rattle.rb_import_setup.specs.Turns.{Turn, turn, turn_view}
 
 -- the chains, who sends transactions to each, the clients, paths and turns
-pub record Setup : Type 0 where
+pub record ImportSetup : Type 0 where
   pub chains : List (List ℕ)
   pub senders : List (Option Sender)
   pub clients : List ClientSetup
   pub paths : List Path
   pub turns : List Turn
 
-abbrev pub setup_view : CodeSetup → Setup
+abbrev pub setup_view : CodeImportSetup → ImportSetup
 setup_view s = record { chains = s.chains.items; senders = map (option_map sender_view) s.senders.items; clients = s.clients.items; paths = map path_view s.paths.items; turns = map turn_view s.turns.items }
 
 -- what the keys of the whole text hold
@@ -58,7 +58,7 @@ tables s = do
   Ok (record { chains = chains; clients = clients; paths = paths; turns = turns })
 
 -- each table beside those before it; the identifiers of the chains come before who sends to them
-unfoldable pub setup : Section → Result Setup Fault
+unfoldable pub setup : Section → Result ImportSetup Fault
 setup s = do
   t ← tables s
   shared ← elements chain (codes "chain") [] t.chains
@@ -70,7 +70,7 @@ setup s = do
   Ok (record { chains = chains; senders = senders; clients = clients; paths = paths; turns = turns })
 
 -- the setup of a text, or its first fault
-unfoldable pub setup_of : List ℕ → Result Setup Fault
+unfoldable pub setup_of : List ℕ → Result ImportSetup Fault
 setup_of bytes = do
   s ← document bytes
   setup s

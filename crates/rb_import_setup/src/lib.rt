@@ -28,5 +28,5 @@ pub use hermes_setup::setup_of;
 pub use reading::read_setup;
 pub use rest::{Rest, rest_without};
 pub use sender::{Sender, UpdateField};
-pub use setup::{ClientSetup, PathSetup, Setup, TrustSetup, TurnSetup};
+pub use setup::{ClientSetup, ImportSetup, PathSetup, TrustSetup, TurnSetup};
 pub use telling::is_setup;

@@ -10,7 +10,7 @@ use crate::chain::read_chains;
 use crate::client::read_clients;
 use crate::path::read_paths;
 use crate::sender::read_senders;
-use crate::setup::Setup;
+use crate::setup::ImportSetup;
 use crate::turn::read_turns;
 use rb_script_config::{ids_of, only_top_keys};
 use rb_script_toml::{FaultName, RunError, Section, read_table};
@@ -59,7 +59,7 @@ fn read_tables<'a>(section: Section<'a>) -> Result<Tables<'a>, RunError>
 }
 
 #[tactic(auto, using(rb_script_toml::proofs::Steps::steps), unfolding(crate::specs::Setups::setup))]
-fn read_document(alloc: Global, table: &Table) -> Result<Setup, RunError>
+fn read_document(alloc: Global, table: &Table) -> Result<ImportSetup, RunError>
     ensures { Gives setup_view result (setup (whole (table_view table.now))) }
 {
     let section = Section {
@@ -74,7 +74,7 @@ fn read_document(alloc: Global, table: &Table) -> Result<Setup, RunError>
     let clients = read_clients(alloc, tables.clients, &chains)?;
     let paths = read_paths(alloc, tables.paths, &chains, &clients)?;
     let turns = read_turns(alloc, tables.turns, &chains, &clients)?;
-    Ok(Setup {
+    Ok(ImportSetup {
         chains: chains.into_vec(),
         senders,
         clients: clients.into_vec(),
@@ -90,7 +90,7 @@ fn read_document(alloc: Global, table: &Table) -> Result<Setup, RunError>
 /// fault, in the order in which scripts are judged (docs/FORMATS.md); `NoMemory` comes where a growth
 /// is refused.
 #[tactic(auto, using(rb_script_toml::proofs::Steps::steps), unfolding(crate::specs::Setups::setup_of))]
-pub fn read_setup(alloc: Global, bytes: &[u8]) -> Result<Setup, RunError>
+pub fn read_setup(alloc: Global, bytes: &[u8]) -> Result<ImportSetup, RunError>
     ensures read { Gives setup_view result (setup_of bytes.now) }
 {
     let table = read_table(alloc, bytes)?;

@@ -6,7 +6,7 @@ ghost use Rattle.rb_import_setup.specs.Turns.{turn_view};
 ghost use Rattle.rb_import_setup.specs.Rests.{client_stays, left_goals, left_settlements, left_turn, moved_path, new_place, path_stays, stays_at, tracks_chain};
 
 use crate::sender::Sender;
-use crate::setup::{ClientSetup, PathSetup, Setup, TurnSetup};
+use crate::setup::{ClientSetup, ImportSetup, PathSetup, TurnSetup};
 use rb_base::ChainId;
 use rb_script_types::{Asked, PathConfig, Settlement};
 use std::alloc::{AllocError, Global};
@@ -14,7 +14,7 @@ use std::alloc::{AllocError, Global};
 /// What is left of a setup, and of each client and each path of the whole setup whether it stays.
 #[derive(Drop)]
 pub struct Rest {
-    pub setup: Setup,
+    pub setup: ImportSetup,
     pub clients: Vec<bool>,
     pub paths: Vec<bool>,
 }
@@ -22,7 +22,7 @@ pub struct Rest {
 /// The setup without the client and the path of an identifier, and without the clients that track the chain of
 /// it. With a client go the paths that it serves, and the goals and settlements that name it. All chains,
 /// all who send to them and all windows stay. `AllocError` comes where a growth is refused.
-pub fn rest_without(alloc: Global, setup: &Setup, id: &str) -> Result<Rest, AllocError>
+pub fn rest_without(alloc: Global, setup: &ImportSetup, id: &str) -> Result<Rest, AllocError>
     ensures which_clients { IfOk result (λ rest. rest.clients.items ≡ map (client_stays setup.now.chains.items id.now) setup.now.clients.items) }
     ensures which_paths { IfOk result (λ rest. rest.paths.items ≡ map (path_stays rest.clients.items id.now) setup.now.paths.items) }
     ensures chains { IfOk result (λ rest. rest.setup.chains.items ≡ setup.now.chains.items) }
@@ -31,7 +31,7 @@ pub fn rest_without(alloc: Global, setup: &Setup, id: &str) -> Result<Rest, Allo
     ensures paths { IfOk result (λ rest. map path_view rest.setup.paths.items ≡ map (moved_path rest.clients.items) (filter (path_stays rest.clients.items id.now) setup.now.paths.items)) }
     ensures turns { IfOk result (λ rest. map turn_view rest.setup.turns.items ≡ map (left_turn rest.clients.items) setup.now.turns.items) }
 {
-    let Setup {
+    let ImportSetup {
         chains,
         senders,
         clients: all_clients,
@@ -40,7 +40,7 @@ pub fn rest_without(alloc: Global, setup: &Setup, id: &str) -> Result<Rest, Allo
     } = setup;
     let clients = clients_stay(alloc, chains.as_slice(), id, all_clients.as_slice())?;
     let paths = paths_stay(alloc, clients.as_slice(), id, all_paths.as_slice())?;
-    let left = Setup {
+    let left = ImportSetup {
         chains: Vec::from_slice(alloc, chains.as_slice())?,
         senders: copies_of(alloc, senders.as_slice())?,
         clients: left_clients(alloc, chains.as_slice(), id, all_clients.as_slice())?,

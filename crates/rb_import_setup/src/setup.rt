@@ -12,7 +12,7 @@ use rb_script_types::{Asked, HostWindow, PathConfig, Settlement};
 /// and clients are named by their places, each of which is the place of one. Of each chain, at its place, who sends
 /// transactions to it, where that is told.
 #[derive(Drop)]
-pub struct Setup {
+pub struct ImportSetup {
     pub chains: Vec<ChainId>,
     pub senders: Vec<Option<Sender>>,
     pub clients: Vec<ClientSetup>,

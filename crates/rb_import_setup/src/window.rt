@@ -3,10 +3,10 @@ ghost use Rattle.std.specs.Prelude.{◌≡◌, option_map};
 ghost use Rattle.rb_script_config.specs.HostWindows.{has_window};
 ghost use Rattle.rb_import_setup.specs.Windows.{given_window, hosts_window, latest_for, own_window, window_of};
 
-use crate::setup::{Setup, TurnSetup};
+use crate::setup::{ImportSetup, TurnSetup};
 use rb_base::Window;
 
-impl Setup {
+impl ImportSetup {
     /// The window of the client at a place, this being the common one: that which the latest turn that gives its host one
     /// gives it, or else the common one.
     #[tactic(auto, unfolding(crate::specs::Windows::window_of))]

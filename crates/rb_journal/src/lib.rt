@@ -18,4 +18,4 @@ pub use damage::damage_in;
 pub use entry::{document_text, entry_text, opening_text};
 pub use parts::{is_opening, split_part, state_in, state_part};
 pub use state::{State, read_state, state_text};
-pub use stored::{Stored, input_of, stored_in};
+pub use stored::{StoredDocuments, input_of, stored_in};

@@ -12,13 +12,13 @@ const END: &str = "---\n";
 
 /// The documents that parts of a journal hold, and how many bytes stand behind the last part that is whole.
 #[derive(Drop)]
-pub struct Stored {
+pub struct StoredDocuments {
     pub documents: Vec<Vec<u8>>,
     pub cut: usize,
 }
 
 /// What a journal holds behind its first part. `Fault` comes where a part isn't a turn.
-pub fn stored_in(alloc: Global, digests: bool, turns: &[u8]) -> Result<Stored, RunError>
+pub fn stored_in(alloc: Global, digests: bool, turns: &[u8]) -> Result<StoredDocuments, RunError>
     ensures stored { IfOk result (λ stored. Holds digests turns.now (map (λ d. d.items) stored.documents.items) stored.cut) }
     ensures unread { IfErr result (λ e. IsUnread digests turns.now e) }
 {
@@ -28,7 +28,7 @@ pub fn stored_in(alloc: Global, digests: bool, turns: &[u8]) -> Result<Stored, R
         documents.push(document_text(alloc, digests, part)?)?;
         rest = more;
     }
-    Ok(Stored {
+    Ok(StoredDocuments {
         documents,
         cut: rest.len(),
     })

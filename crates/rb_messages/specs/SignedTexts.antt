@@ -6,7 +6,7 @@ use Rattle.std.specs.Str.{bytes_eq}
 use Rattle.base64.specs.Engines.{standard}
 use Rattle.base64.specs.GeneralPurpose.{encode_of}
 use Rattle.rb_script_text.specs.Moments.{moment_text}
-use Rattle.rb_import_answers.specs.HeaderHash.{BlockId, Header as HeaderFields}
+use Rattle.rb_import_answers.specs.HeaderHash.{BlockId, BlockHeader}
 use Rattle.rb_import_answers.specs.declared.commit.Cast.{Cast}
 use Rattle.rb_import_answers.specs.declared.commit.CommitVote.{CommitVote}
 use Rattle.rb_import_answers.specs.declared.commit.CommitVote.TheVariants as kinds
@@ -51,7 +51,7 @@ block_version_text version = codes "{\"version\": {\"block\": \"" ++ decimal ver
 abbrev pub app_version_text : ℕ → List ℕ
 app_version_text version = codes "\", \"app\": \"" ++ decimal version ++ codes "\"}"
 
-abbrev pub versions_text : HeaderFields → List ℕ
+abbrev pub versions_text : BlockHeader → List ℕ
 versions_text f = block_version_text f.block_version ++ app_version_text f.app_version
 
 abbrev pub chain_text : List ℕ → List ℕ
@@ -60,46 +60,46 @@ chain_text chain = codes ", \"chain_id\": \"" ++ chain
 abbrev pub height_text : ℕ → List ℕ
 height_text height = codes "\", \"height\": \"" ++ decimal height ++ codes "\", \"time\": "
 
-abbrev pub subject_text : HeaderFields → List ℕ
+abbrev pub subject_text : BlockHeader → List ℕ
 subject_text f = chain_text f.chain ++ height_text f.height
 
-unfoldable pub head_text : HeaderFields → List ℕ
+unfoldable pub head_text : BlockHeader → List ℕ
 head_text f = versions_text f ++ subject_text f ++ time_text f.time
 
-unfoldable pub last_block_text : HeaderFields → List ℕ
+unfoldable pub last_block_text : BlockHeader → List ℕ
 last_block_text f = name_text (codes "last_block_id") ++ id_text f.last_block
 
-unfoldable pub block_hashes : HeaderFields → List ℕ
+unfoldable pub block_hashes : BlockHeader → List ℕ
 block_hashes f =
     bytes_member (codes "last_commit_hash") f.last_commit_hash
     ++ bytes_member (codes "data_hash") f.data_hash
     ++ bytes_member (codes "validators_hash") f.validators_hash
 
-abbrev pub next_hash : HeaderFields → List ℕ
+abbrev pub next_hash : BlockHeader → List ℕ
 next_hash f = bytes_member (codes "next_validators_hash") f.next_validators_hash
 
-unfoldable pub consensus_text : HeaderFields → List ℕ
+unfoldable pub consensus_text : BlockHeader → List ℕ
 consensus_text f = bytes_member (codes "consensus_hash") f.consensus_hash
 
-unfoldable pub app_text : HeaderFields → List ℕ
+unfoldable pub app_text : BlockHeader → List ℕ
 app_text f = bytes_member (codes "app_hash") f.app_hash
 
-unfoldable pub state_hashes : HeaderFields → List ℕ
+unfoldable pub state_hashes : BlockHeader → List ℕ
 state_hashes f = next_hash f ++ consensus_text f ++ app_text f
 
-unfoldable pub last_hashes : HeaderFields → List ℕ
+unfoldable pub last_hashes : BlockHeader → List ℕ
 last_hashes f =
     bytes_member (codes "last_results_hash") f.last_results_hash
     ++ bytes_member (codes "evidence_hash") f.evidence_hash
     ++ bytes_member (codes "proposer_address") f.proposer_address
 
-unfoldable pub hashes_text : HeaderFields → List ℕ
+unfoldable pub hashes_text : BlockHeader → List ℕ
 hashes_text f = block_hashes f ++ state_hashes f ++ last_hashes f
 
-abbrev pub header_tail : HeaderFields → List ℕ
+abbrev pub header_tail : BlockHeader → List ℕ
 header_tail f = hashes_text f ++ codes "}"
 
-unfoldable pub header_text : HeaderFields → List ℕ
+unfoldable pub header_text : BlockHeader → List ℕ
 header_text f = head_text f ++ last_block_text f ++ header_tail f
 
 -- ---- a commit (CometBFT, `Commit`), with the votes that an update carries

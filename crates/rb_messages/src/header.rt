@@ -4,12 +4,12 @@ ghost use Rattle.rb_import_answers.specs.HeaderHash.{header_view};
 ghost use Rattle.rb_messages.specs.SignedTexts.{app_text, app_version_text, block_hashes, block_version_text, consensus_text, next_hash, hashes_text, head_text, header_tail, header_text, id_head, id_text, last_block_text, last_hashes, parts_head, parts_tail, state_hashes, subject_text, versions_text};
 
 use crate::text::{push_bytes, push_member, push_name, push_time};
-use rb_import_answers::Header;
+use rb_import_answers::BlockHeader;
 use std::alloc::AllocError;
 
 /// Adds a header.
 #[tactic(auto, using(crate::proofs::Texts::added), unfolding(crate::specs::SignedTexts::header_text))]
-pub(crate) fn push_header(text: &mut String, header: &Header) -> Result<(), AllocError>
+pub(crate) fn push_header(text: &mut String, header: &BlockHeader) -> Result<(), AllocError>
     ensures { OnOk result (string_bytes text.new ≡ string_bytes text.old ++ header_text (header_view header.now)) }
 {
     push_head(text, header)?;
@@ -19,7 +19,7 @@ pub(crate) fn push_header(text: &mut String, header: &Header) -> Result<(), Allo
 
 /// Adds the versions, and of which chain, height and time the header is.
 #[tactic(auto, using(crate::proofs::Texts::added), unfolding(crate::specs::SignedTexts::head_text))]
-fn push_head(text: &mut String, header: &Header) -> Result<(), AllocError>
+fn push_head(text: &mut String, header: &BlockHeader) -> Result<(), AllocError>
     ensures { OnOk result (string_bytes text.new ≡ string_bytes text.old ++ head_text (header_view header.now)) }
 {
     push_versions(text, header)?;
@@ -29,7 +29,7 @@ fn push_head(text: &mut String, header: &Header) -> Result<(), AllocError>
 
 /// Adds the versions of the block protocol and of the application.
 #[tactic(auto, using(crate::proofs::Texts::added))]
-fn push_versions(text: &mut String, header: &Header) -> Result<(), AllocError>
+fn push_versions(text: &mut String, header: &BlockHeader) -> Result<(), AllocError>
     ensures { OnOk result (string_bytes text.new ≡ string_bytes text.old ++ versions_text (header_view header.now)) }
 {
     let block = header.block_version;
@@ -52,7 +52,7 @@ fn push_app_version(text: &mut String, version: u64) -> Result<(), AllocError>
 
 /// Adds the chain and the height.
 #[tactic(auto, using(crate::proofs::Texts::added))]
-fn push_subject(text: &mut String, header: &Header) -> Result<(), AllocError>
+fn push_subject(text: &mut String, header: &BlockHeader) -> Result<(), AllocError>
     ensures { OnOk result (string_bytes text.new ≡ string_bytes text.old ++ subject_text (header_view header.now)) }
 {
     let chain = header.chain;
@@ -63,7 +63,7 @@ fn push_subject(text: &mut String, header: &Header) -> Result<(), AllocError>
 
 /// Adds the identifier of the block before, whose hashes may be empty.
 #[tactic(auto, using(crate::proofs::Texts::added), unfolding(crate::specs::SignedTexts::last_block_text))]
-fn push_last_block(text: &mut String, header: &Header) -> Result<(), AllocError>
+fn push_last_block(text: &mut String, header: &BlockHeader) -> Result<(), AllocError>
     ensures { OnOk result (string_bytes text.new ≡ string_bytes text.old ++ last_block_text (header_view header.now)) }
 {
     push_name(text, "last_block_id")?;
@@ -118,7 +118,7 @@ fn push_parts_tail(text: &mut String, hash: &[u8]) -> Result<(), AllocError>
 
 /// Adds the hashes, and the end of a header.
 #[tactic(auto, using(crate::proofs::Texts::added))]
-fn push_tail(text: &mut String, header: &Header) -> Result<(), AllocError>
+fn push_tail(text: &mut String, header: &BlockHeader) -> Result<(), AllocError>
     ensures { OnOk result (string_bytes text.new ≡ string_bytes text.old ++ header_tail (header_view header.now)) }
 {
     push_hashes(text, header)?;
@@ -127,7 +127,7 @@ fn push_tail(text: &mut String, header: &Header) -> Result<(), AllocError>
 
 /// Adds the hashes behind the identifier of the block before, in the order of `Header`.
 #[tactic(auto, using(crate::proofs::Texts::added), unfolding(crate::specs::SignedTexts::hashes_text))]
-fn push_hashes(text: &mut String, header: &Header) -> Result<(), AllocError>
+fn push_hashes(text: &mut String, header: &BlockHeader) -> Result<(), AllocError>
     ensures { OnOk result (string_bytes text.new ≡ string_bytes text.old ++ hashes_text (header_view header.now)) }
 {
     push_block_hashes(text, header)?;
@@ -136,7 +136,7 @@ fn push_hashes(text: &mut String, header: &Header) -> Result<(), AllocError>
 }
 
 #[tactic(auto, using(crate::proofs::Texts::added), unfolding(crate::specs::SignedTexts::block_hashes))]
-fn push_block_hashes(text: &mut String, header: &Header) -> Result<(), AllocError>
+fn push_block_hashes(text: &mut String, header: &BlockHeader) -> Result<(), AllocError>
     ensures { OnOk result (string_bytes text.new ≡ string_bytes text.old ++ block_hashes (header_view header.now)) }
 {
     push_member(text, "last_commit_hash", header.last_commit_hash.as_slice())?;
@@ -145,7 +145,7 @@ fn push_block_hashes(text: &mut String, header: &Header) -> Result<(), AllocErro
 }
 
 #[tactic(auto, using(crate::proofs::Texts::added), unfolding(crate::specs::SignedTexts::state_hashes))]
-fn push_state_hashes(text: &mut String, header: &Header) -> Result<(), AllocError>
+fn push_state_hashes(text: &mut String, header: &BlockHeader) -> Result<(), AllocError>
     ensures { OnOk result (string_bytes text.new ≡ string_bytes text.old ++ state_hashes (header_view header.now)) }
 {
     push_next_hash(text, header)?;
@@ -153,28 +153,28 @@ fn push_state_hashes(text: &mut String, header: &Header) -> Result<(), AllocErro
     push_app_hash(text, header)
 }
 
-fn push_next_hash(text: &mut String, header: &Header) -> Result<(), AllocError>
+fn push_next_hash(text: &mut String, header: &BlockHeader) -> Result<(), AllocError>
     ensures { OnOk result (string_bytes text.new ≡ string_bytes text.old ++ next_hash (header_view header.now)) }
 {
     push_member(text, "next_validators_hash", &header.next_validators_hash)
 }
 
 #[tactic(auto, unfolding(crate::specs::SignedTexts::consensus_text))]
-fn push_consensus_hash(text: &mut String, header: &Header) -> Result<(), AllocError>
+fn push_consensus_hash(text: &mut String, header: &BlockHeader) -> Result<(), AllocError>
     ensures { OnOk result (string_bytes text.new ≡ string_bytes text.old ++ consensus_text (header_view header.now)) }
 {
     push_member(text, "consensus_hash", header.consensus_hash.as_slice())
 }
 
 #[tactic(auto, unfolding(crate::specs::SignedTexts::app_text))]
-fn push_app_hash(text: &mut String, header: &Header) -> Result<(), AllocError>
+fn push_app_hash(text: &mut String, header: &BlockHeader) -> Result<(), AllocError>
     ensures { OnOk result (string_bytes text.new ≡ string_bytes text.old ++ app_text (header_view header.now)) }
 {
     push_member(text, "app_hash", header.app_hash.as_slice())
 }
 
 #[tactic(auto, using(crate::proofs::Texts::added), unfolding(crate::specs::SignedTexts::last_hashes))]
-fn push_last_hashes(text: &mut String, header: &Header) -> Result<(), AllocError>
+fn push_last_hashes(text: &mut String, header: &BlockHeader) -> Result<(), AllocError>
     ensures { OnOk result (string_bytes text.new ≡ string_bytes text.old ++ last_hashes (header_view header.now)) }
 {
     push_member(

@@ -2,7 +2,7 @@
 use Rattle.std.specs.Prelude.{ℕ, ◌-◌, List, ◌++◌, codes}
 use Rattle.std.specs.Fmt.{decimal}
 use Rattle.hex.specs.Hex.{encode_lower}
-use Rattle.rb_packets.specs.Packets.{Packet}
+use Rattle.rb_packets.specs.Packets.{ChannelPacket}
 use Rattle.rb_packets.specs.Claims.{Claim, acknowledged, awaited, key_of, sent, unreceived}
 
 abbrev pub query_text : List ℕ → ℕ → List ℕ
@@ -10,7 +10,7 @@ query_text digits block =
     codes "/abci_query?path=%22store/ibc/key%22&data=0x" ++ (digits ++ (codes "&height=" ++ (decimal block ++ codes "&prove=true")))
 
 -- the header of the proof height has the app hash after the block before it
-unfoldable pub query_of : Packet → Claim → ℕ → List ℕ
+unfoldable pub query_of : ChannelPacket → Claim → ℕ → List ℕ
 query_of p c proof_height = query_text (encode_lower (key_of p c)) (proof_height - 1)
 
 -- the message of a claim, as reports name it
@@ -20,5 +20,5 @@ kind_of (acknowledged bytes) = codes "ack"
 kind_of unreceived = codes "timeout"
 kind_of awaited = codes "timeout"
 
-abbrev pub file_name : Packet → Claim → ℕ → List ℕ
+abbrev pub file_name : ChannelPacket → Claim → ℕ → List ℕ
 file_name p c proof_height = kind_of c ++ (codes "-" ++ (decimal p.sequence ++ (codes "-" ++ (decimal proof_height ++ codes ".json"))))

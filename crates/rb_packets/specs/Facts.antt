@@ -13,7 +13,7 @@ use Rattle.rb_packets.specs.Json.{json}
 use Rattle.rb_packets.specs.Steps.{◌>>=◌, first_of}
 use Rattle.rb_import_json.specs.declared.error.FieldError.{FieldError}
 use Rattle.rb_packets.specs.Transactions.{bytes_in, transactions_view}
-use Rattle.rb_packets.specs.declared.packet.RevisionHeight.{RevisionHeight}
+use Rattle.rb_import_answers.specs.declared.packets.RevisionHeight.{RevisionHeight}
 use Rattle.rb_scan.specs.declared.message.Kind.{Kind}
 use Rattle.rb_scan.specs.declared.message.Kind.TheVariants.{Receive, Acknowledge, Timeout}
 use Rattle.rb_script_types.specs.Channels.{end_text}

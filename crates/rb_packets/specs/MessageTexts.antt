@@ -1,7 +1,7 @@
 -- The text of packet messages (ICS 4; ibc-go, `MsgRecvPacket`, `MsgAcknowledgement` and `MsgTimeout`; their JSON by protojson).
 use Rattle.std.specs.Prelude.{ℕ, List, ◌++◌, codes}
-use Rattle.rb_packets.specs.Packets.{Packet, packet_view}
-use Rattle.rb_packets.specs.declared.packet.RevisionHeight.{RevisionHeight}
+use Rattle.rb_packets.specs.Packets.{ChannelPacket, packet_view}
+use Rattle.rb_import_answers.specs.declared.packets.RevisionHeight.{RevisionHeight}
 use Rattle.rb_packets.specs.PacketTexts.{packet_member}
 use Rattle.rb_packets.specs.Values.{bytes_member, height_member, number_member, text_member}
 use Rattle.rb_packets.specs.declared.message.Action.{Action as CodeAction}
@@ -21,7 +21,7 @@ action_view (actions.Timeout next) = time_out next
 
 pub record Message : Type 0 where
   pub action : Action
-  pub packet : Packet
+  pub packet : ChannelPacket
   pub proof : List ℕ
   pub proof_height : RevisionHeight
   pub signer : List ℕ

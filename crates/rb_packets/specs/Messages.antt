@@ -1,8 +1,8 @@
 -- Packet messages that are due (ICS 4), what a node is asked for each, and its text by an answer that proves it (ICS 23).
 use Rattle.std.specs.Prelude.{◌≡◌, ℕ, true, List, Some, Result, Ok, Err}
 use Rattle.rb_packets.specs.Answers.{StoreAnswer, store_answer}
-use Rattle.rb_packets.specs.Packets.{Packet}
-use Rattle.rb_packets.specs.declared.packet.RevisionHeight.{RevisionHeight}
+use Rattle.rb_packets.specs.Packets.{ChannelPacket}
+use Rattle.rb_import_answers.specs.declared.packets.RevisionHeight.{RevisionHeight}
 use Rattle.rb_packets.specs.Asking.{file_name, query_of}
 use Rattle.rb_packets.specs.Claims.{Claim, acknowledged, awaited, sent, unreceived}
 use Rattle.rb_packets.specs.Judging.{Proven, judged, proven_by}
@@ -40,7 +40,7 @@ due_view d = record {
   proof_height = d.proof_height;
 }
 
-abbrev pub packet_of : Due → Packet
+abbrev pub packet_of : Due → ChannelPacket
 packet_of d = record {
   sequence = d.sequence;
   source_port = d.ends.source.port;

@@ -2,10 +2,10 @@
 use Rattle.std.specs.Prelude.{ℕ, ◌++◌, ◌==◌, if◌then◌else◌, List, length, Option, Some, None}
 use Rattle.std.specs.Int.{w64, from_be_bytes, to_be_bytes}
 use Rattle.sha2.specs.Sha256.{sha256}
-use Rattle.rb_packets.specs.declared.packet.Packet.{Packet as CodePacket}
-use Rattle.rb_packets.specs.declared.packet.RevisionHeight.{RevisionHeight}
+use Rattle.rb_packets.specs.declared.packet.ChannelPacket.{ChannelPacket as CodeChannelPacket}
+use Rattle.rb_import_answers.specs.declared.packets.RevisionHeight.{RevisionHeight}
 
-pub record Packet : Type 0 where
+pub record ChannelPacket : Type 0 where
   pub sequence : ℕ
   pub source_port : List ℕ
   pub source_channel : List ℕ
@@ -15,7 +15,7 @@ pub record Packet : Type 0 where
   pub timeout_height : RevisionHeight
   pub timeout_time : ℕ
 
-abbrev pub packet_view : CodePacket → Packet
+abbrev pub packet_view : CodeChannelPacket → ChannelPacket
 packet_view p = record {
   sequence = p.sequence;
   source_port = p.source_port.now;
@@ -34,11 +34,11 @@ eight_bytes n = to_be_bytes w64 n
 abbrev pub height_bytes : RevisionHeight → List ℕ
 height_bytes h = eight_bytes h.revision ++ eight_bytes h.height
 
-abbrev pub timeout_bytes : Packet → List ℕ
+abbrev pub timeout_bytes : ChannelPacket → List ℕ
 timeout_bytes p = eight_bytes p.timeout_time ++ height_bytes p.timeout_height
 
 -- the timeouts and the hash of the data, hashed
-abbrev pub packet_commitment : Packet → List ℕ
+abbrev pub packet_commitment : ChannelPacket → List ℕ
 packet_commitment p = sha256 (timeout_bytes p ++ sha256 p.«data»)
 
 abbrev pub acknowledgement_commitment : List ℕ → List ℕ

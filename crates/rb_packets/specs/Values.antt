@@ -3,7 +3,7 @@ use Rattle.std.specs.Prelude.{ℕ, List, ◌++◌, codes}
 use Rattle.std.specs.Fmt.{decimal}
 use Rattle.base64.specs.Engines.{standard}
 use Rattle.base64.specs.GeneralPurpose.{encode_of}
-use Rattle.rb_packets.specs.declared.packet.RevisionHeight.{RevisionHeight}
+use Rattle.rb_import_answers.specs.declared.packets.RevisionHeight.{RevisionHeight}
 
 -- the name of a member that stands behind another
 abbrev pub name_text : List ℕ → List ℕ

@@ -5,7 +5,7 @@ ghost use Rattle.rb_packets.specs.Asking.{file_name, kind_of, query_of, query_te
 ghost use Rattle.rb_packets.specs.Claims.{claim_view};
 
 use crate::claim::{Claim, key_of};
-use crate::packet::Packet;
+use crate::packet::ChannelPacket;
 use std::alloc::{AllocError, Global};
 
 /// The query for the proof of a claim at a proof height: what the block before wrote, since the header of a height has the
@@ -13,7 +13,7 @@ use std::alloc::{AllocError, Global};
 #[tactic(auto, unfolding(crate::specs::Asking::query_of))]
 pub fn query_of(
     alloc: Global,
-    packet: &Packet,
+    packet: &ChannelPacket,
     claim: &Claim,
     proof_height: u64,
 ) -> Result<String, AllocError>
@@ -36,7 +36,7 @@ fn query_text(alloc: Global, digits: &str, block: u64) -> Result<String, AllocEr
 /// the proof height.
 pub fn file_name(
     alloc: Global,
-    packet: &Packet,
+    packet: &ChannelPacket,
     claim: &Claim,
     proof_height: u64,
 ) -> Result<String, AllocError>

@@ -3,7 +3,7 @@ ghost use Rattle.std.specs.Prelude.{◌≡◌, IfOk, string_bytes};
 ghost use Rattle.rb_packets.specs.Packets.{packet_view};
 ghost use Rattle.rb_packets.specs.Claims.{claim_view, key_of};
 
-use crate::packet::Packet;
+use crate::packet::ChannelPacket;
 use rb_ics23::{acknowledgement_path, commitment_path, next_sequence_path, receipt_path};
 use std::alloc::{AllocError, Global};
 
@@ -21,7 +21,7 @@ pub enum Claim<'a> {
 }
 
 /// The key that a claim is about (ICS 24), in the store of the chain that the packet comes from, or goes to.
-pub fn key_of(alloc: Global, packet: &Packet, claim: &Claim) -> Result<String, AllocError>
+pub fn key_of(alloc: Global, packet: &ChannelPacket, claim: &Claim) -> Result<String, AllocError>
     ensures { IfOk result (λ key. string_bytes key ≡ key_of (packet_view packet.now) (claim_view claim.now)) }
 {
     let sequence = packet.sequence;

@@ -8,7 +8,8 @@ use crate::asking::{file_name, query_of};
 use crate::claim::Claim;
 use crate::ends::Ends;
 use crate::facts::PacketFacts;
-use crate::packet::{Packet, RevisionHeight};
+use crate::packet::ChannelPacket;
+use rb_import_answers::RevisionHeight;
 use rb_scan::{Kind, Order};
 use std::alloc::{AllocError, Global};
 
@@ -26,10 +27,10 @@ pub struct DueMessage<'a> {
 }
 
 /// The packet of a message (ICS 4).
-pub(crate) fn packet_of<'d>(due: &'d DueMessage<'_>) -> Packet<'d>
+pub(crate) fn packet_of<'d>(due: &'d DueMessage<'_>) -> ChannelPacket<'d>
     ensures { packet_view result ≡ packet_of (due_view due.entry.now) }
 {
-    Packet {
+    ChannelPacket {
         sequence: due.sequence,
         source_port: due.ends.source.port.as_str(),
         source_channel: due.ends.source.channel.as_str(),

@@ -9,9 +9,10 @@ ghost use Rattle.rb_script_types.specs.Channels.{end_text};
 use crate::ends::Ends;
 use crate::error::PacketError;
 use crate::event::{PacketBytes, PacketWay};
-use crate::packet::RevisionHeight;
 use crate::transactions::{Transactions, read_transactions};
-use rb_import_answers::{NodeAnswer, PacketEvent, PacketKind, PacketPage, read_answer};
+use rb_import_answers::{
+    NodeAnswer, PacketEvent, PacketKind, PacketPage, RevisionHeight, read_answer,
+};
 use rb_import_json::AnswerError;
 use rb_scan::Kind;
 use rb_script_types::ChannelEnd;

@@ -7,7 +7,7 @@ ghost use Rattle.rb_packets.specs.Judging.{Judges, judged, judged_answer, next_i
 
 use crate::answer::{StoreAnswer, read_store_answer};
 use crate::claim::Claim;
-use crate::packet::Packet;
+use crate::packet::ChannelPacket;
 use crate::proving::proves;
 use crate::stored::next_sequence_in;
 use rb_ics23::{MerkleProof, merkle_proof};
@@ -70,7 +70,7 @@ impl<T: Drop> From<AllocFailed<T>> for ProofError {
 pub fn judge(
     alloc: Global,
     app_hash: &[u8],
-    packet: &Packet,
+    packet: &ChannelPacket,
     claim: &Claim,
     answer: &[u8],
 ) -> Result<Proven, ProofError>
@@ -87,7 +87,7 @@ pub fn judge(
 fn judge_answer(
     alloc: Global,
     app_hash: &[u8],
-    packet: &Packet,
+    packet: &ChannelPacket,
     claim: &Claim,
     answer: &StoreAnswer,
 ) -> Result<Proven, ProofError>
@@ -108,7 +108,7 @@ fn judge_answer(
 }
 
 /// The sequence that is received next: on an ORDERED channel by the value that is stored, else the packet's own.
-fn next_in(packet: &Packet, claim: &Claim, answer: &StoreAnswer) -> u64
+fn next_in(packet: &ChannelPacket, claim: &Claim, answer: &StoreAnswer) -> u64
     ensures { result ≡ next_in (packet_view packet.now) (claim_view claim.now) (answer_view answer.now) }
 {
     match claim {

@@ -33,5 +33,6 @@ pub use event::{PacketBytes, PacketWay};
 pub use facts::{PacketFacts, PathAnswer, facts_of, read_path_answer};
 pub use judging::{ProofError, Proven, judge};
 pub use message::{Action, PacketMessage, packet_message_text};
-pub use packet::{Packet, RevisionHeight};
+pub use packet::ChannelPacket;
+pub use rb_import_answers::RevisionHeight;
 pub use transactions::{Transactions, read_transactions};

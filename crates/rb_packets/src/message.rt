@@ -4,9 +4,10 @@ ghost use Rattle.rb_packets.specs.Packets.{packet_view};
 ghost use Rattle.rb_packets.specs.MessageTexts.{action_text, action_view, message_view, packet_message_text, proof_member, signer_text, type_text};
 ghost use Rattle.rb_packets.specs.PacketTexts.{packet_member};
 
-use crate::packet::{Packet, RevisionHeight};
+use crate::packet::ChannelPacket;
 use crate::packet_text::push_packet;
 use crate::values::{push_bytes, push_height, push_number, push_text};
+use rb_import_answers::RevisionHeight;
 use std::alloc::{AllocError, Global};
 
 /// What a message does: it hands the packet to its destination, or hands the acknowledgement back, or shows the source
@@ -23,7 +24,7 @@ pub enum Action<'a> {
 #[derive(Clone, Copy, Debug)]
 pub struct PacketMessage<'a> {
     pub action: Action<'a>,
-    pub packet: Packet<'a>,
+    pub packet: ChannelPacket<'a>,
     pub proof: &'a [u8],
     pub proof_height: RevisionHeight,
     pub signer: &'a str,

@@ -1,16 +1,11 @@
 //! Packets.
 
-/// A height of a chain, with the number of its revision; 0 and 0 is none (ICS 2).
-#[derive(Clone, Copy, Debug, PartialEq, Eq)]
-pub struct RevisionHeight {
-    pub revision: u64,
-    pub height: u64,
-}
+use rb_import_answers::RevisionHeight;
 
 /// A packet (ICS 4, `Packet`): its sequence, the ends of its channel, its data, and its timeouts on the chain of its
 /// destination (the time in nanoseconds; 0 is none).
 #[derive(Clone, Copy, Debug)]
-pub struct Packet<'a> {
+pub struct ChannelPacket<'a> {
     pub sequence: u64,
     pub source_port: &'a str,
     pub source_channel: &'a str,

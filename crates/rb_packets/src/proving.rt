@@ -7,7 +7,7 @@ ghost use Rattle.rb_packets.specs.Proving.{is_awaited, proves};
 
 use crate::answer::StoreAnswer;
 use crate::claim::{Claim, key_of};
-use crate::packet::Packet;
+use crate::packet::ChannelPacket;
 use crate::stored::{acknowledgement_commitment, next_sequence_in, packet_commitment};
 use rb_ics23::{MerklePath, MerkleProof, shows_absent, shows_member};
 use std::alloc::{AllocError, Global};
@@ -20,7 +20,7 @@ const STORE: &[u8] = b"ibc";
 pub(crate) fn proves(
     alloc: Global,
     app_hash: &[u8],
-    packet: &Packet,
+    packet: &ChannelPacket,
     claim: &Claim,
     answer: &StoreAnswer,
 ) -> Result<bool, AllocError>

@@ -2,11 +2,12 @@
 ghost use Rattle.std.specs.Prelude.{◌≡◌, ◌++◌, ℕ, List};
 ghost use Rattle.rb_packets.specs.Packets.{acknowledgement_commitment, eight_bytes, height_bytes, next_sequence_in, packet_commitment, packet_view, timeout_bytes};
 
-use crate::packet::{Packet, RevisionHeight};
+use crate::packet::ChannelPacket;
+use rb_import_answers::RevisionHeight;
 use sha2::{Digest, Sha256};
 
 /// The commitment to a packet, on the chain that sent it.
-pub(crate) fn packet_commitment(packet: &Packet) -> [u8; 32]
+pub(crate) fn packet_commitment(packet: &ChannelPacket) -> [u8; 32]
     ensures { result ≡ packet_commitment (packet_view packet.now) }
 {
     let data_hash = Sha256::digest(packet.data);
@@ -17,7 +18,7 @@ pub(crate) fn packet_commitment(packet: &Packet) -> [u8; 32]
 }
 
 /// Adds the timeouts of a packet to what is hashed.
-fn hash_timeouts<D: Digest>(hasher: &mut D, packet: &Packet)
+fn hash_timeouts<D: Digest>(hasher: &mut D, packet: &ChannelPacket)
     ensures { (m : List ℕ) → D.holds hasher.old m → D.holds hasher.new (m ++ timeout_bytes (packet_view packet.now)) }
 {
     hash_number(hasher, packet.timeout_time);

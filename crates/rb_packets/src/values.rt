@@ -2,8 +2,8 @@
 ghost use Rattle.std.specs.Prelude.{◌≡◌, ◌++◌, OnOk, string_bytes};
 ghost use Rattle.rb_packets.specs.Values.{bytes_member, bytes_text, height_head, height_member, height_tail, height_text, name_text, number_member, number_text, text_member, value_text};
 
-use crate::packet::RevisionHeight;
 use base64::engine::general_purpose::STANDARD;
+use rb_import_answers::RevisionHeight;
 use std::alloc::AllocError;
 
 /// Adds the name of a member behind the one before it, up to where its value stands.

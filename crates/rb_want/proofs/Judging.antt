@@ -17,8 +17,8 @@ use Rattle.rb_step.specs.declared.verdict.Reason.TheVariants.{Expired, TrustedSe
 use Rattle.rb_step.specs.declared.verdict.Verdict.{Verdict}
 use Rattle.rb_step.specs.declared.verdict.Verdict.TheVariants.{Invalid, Success}
 use Rattle.rb_import_answers.specs.declared.commit.SignedHeader.{SignedHeader}
-use Rattle.rb_want_requests.specs.declared.judge.Judgement.{Judgement}
-use Rattle.rb_want_requests.specs.declared.judge.Judgement.TheVariants.{Accepted, Refused, Never, Gone, Unknown}
+use Rattle.rb_want_requests.specs.declared.judge.StepJudgement.{StepJudgement}
+use Rattle.rb_want_requests.specs.declared.judge.StepJudgement.TheVariants.{Accepted, Refused, Never, Gone, Unknown}
 use Rattle.rb_want.specs.declared.judged.Steps.{Steps}
 use Rattle.rb_want.specs.Clients.{IsHeaderAt}
 use Rattle.rb_want.specs.Judgements.{AreByRule, IsExpiring, IsRefusal, LacksStep, LacksTrust}
@@ -57,7 +57,7 @@ never s trusted height v (step, at, rule, (moment, inside, holds)) (inr unknown)
     absurd (none-some at.2.0 (sym none ∙ at.2.1))
 
 -- a judgement that calls a step accepted only where the verdict is success, and refused only where it isn't
-pub by_rule : (s : Steps) (trusted height : ℕ) (v : Verdict) (j : Judgement)
+pub by_rule : (s : Steps) (trusted height : ℕ) (v : Verdict) (j : StepJudgement)
     → IsVerdictOn s trusted height v → (j ≡ Accepted → v ≡ Success) → (j ≡ Refused → IsRefusal v)
     → (j ≡ Never → (v ≡ Invalid Expired) ⊎ (v ≡ Invalid TrustedSetUnknown)) → (j ≢ Gone) × (j ≢ Unknown) → AreByRule s trusted height j
 by_rule s trusted height v Accepted is accepted refused last decided = (is.0, is.1, is.2.0 (accepted refl))

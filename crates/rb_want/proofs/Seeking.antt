@@ -15,10 +15,10 @@ use Rattle.rb_want_requests.specs.declared.content.Folders.{Folders}
 use Rattle.rb_import_answers.specs.declared.status.NodeStatus.{NodeStatus}
 use Rattle.rb_want_requests.specs.declared.reason.End.{End}
 use Rattle.rb_want_requests.specs.declared.reason.End.TheVariants as endings
-use Rattle.rb_want_requests.specs.declared.reason.Why.{Why}
+use Rattle.rb_want_requests.specs.declared.reason.SearchReason.{SearchReason}
 use Rattle.rb_want_requests.specs.Search.{IsFinding}
 use Rattle.rb_want_requests.specs.declared.searching.Aim.{Aim}
-use Rattle.rb_want_requests.specs.declared.searching.Finding.{Finding}
+use Rattle.rb_want_requests.specs.declared.searching.SearchOutcome.{SearchOutcome}
 use Rattle.rb_want_requests.specs.declared.searching.Question.{Question}
 use Rattle.rb_want.specs.Adding.{Outcome, Told, ended, no_outcome, reasons_if, with_ends, with_needed, with_outcome}
 use Rattle.rb_want.specs.Clients.{is_other_client, state_in, status_in}
@@ -30,7 +30,7 @@ use Rattle.rb_want.proofs.Asked.{grows}
 
 -- ---- what an outcome adds
 
-no_reasons : (b : Bool) (before more : List Why) → more ≡ [] → reasons_if b before more ≡ before
+no_reasons : (b : Bool) (before more : List SearchReason) → more ≡ [] → reasons_if b before more ≡ before
 no_reasons true before more none = ap (λ l. before ++ l) none ∙ append-nil before
 no_reasons false before more none = refl
 
@@ -106,7 +106,7 @@ level_stays (Err e) P level trust options made is has = absurd (none-some level 
 -- ---- what comes of a search
 
 -- what its finding comes to
-pub sought : (t : Tracking) (options : ClientOptions) (aim : Aim) (stored : List ConsensusState) (first : ℕ) (s : Steps) (finding : Finding)
+pub sought : (t : Tracking) (options : ClientOptions) (aim : Aim) (stored : List ConsensusState) (first : ℕ) (s : Steps) (finding : SearchOutcome)
     (f : Folders) (old new : Told) (o : Outcome)
     → AreStepsOf t options stored s → IsFinding (AreByRule s) first aim finding → IsOutcomeOf t options s finding o → new ≡ with_outcome f old o
     → (o : Outcome) × IsSoughtFrom t options aim stored (Some first) o × (new ≡ with_outcome f old o)

@@ -3,14 +3,14 @@ use Rattle.std.proofs.Common.{◌≡◌, ℕ, ◌-◌, List, length, Some, refl,
 use Rattle.std.specs.Prelude.{Option, slice_get}
 use Rattle.rb_base.specs.Window.{Span}
 use Rattle.rb_import_setup.specs.declared.setup.ClientSetup.{ClientSetup}
-use Rattle.rb_import_setup.specs.declared.setup.Setup.{Setup}
+use Rattle.rb_import_setup.specs.declared.setup.ImportSetup.{ImportSetup}
 use Rattle.rb_import_setup.specs.declared.setup.TurnSetup.{TurnSetup}
 use Rattle.rb_import_setup.specs.Windows.{window_of}
 use Rattle.rb_script_types.specs.declared.goal.Goal.{Goal}
 use Rattle.rb_want_requests.specs.declared.content.Folder.{Folder}
 use Rattle.rb_want.specs.Needs.{Tracking, goal_at, tracking_at, tracking_with}
 
-module _ (setup : Setup) (own chains : List Folder) (place : ℕ) (c : ClientSetup) (turn : TurnSetup) (host tracks : List ℕ) (folder chain : Folder) where
+module _ (setup : ImportSetup) (own chains : List Folder) (place : ℕ) (c : ClientSetup) (turn : TurnSetup) (host tracks : List ℕ) (folder chain : Folder) where
   abbrev so : Option Goal → Span → Tracking
   so goal window = record { place = place; setup = c; host = host; tracks = tracks; goal = goal; window = window; own = folder; chain = chain }
 

@@ -12,7 +12,7 @@ use Rattle.rb_want_requests.specs.declared.request.Request.{Request}
 use Rattle.rb_import_answers.specs.declared.client.ConsensusState.{ConsensusState}
 use Rattle.rb_import_setup.specs.declared.setup.ClientSetup.{ClientSetup}
 use Rattle.rb_import_setup.specs.declared.setup.PathSetup.{PathSetup}
-use Rattle.rb_import_setup.specs.declared.setup.Setup.{Setup}
+use Rattle.rb_import_setup.specs.declared.setup.ImportSetup.{ImportSetup}
 use Rattle.rb_want.specs.Adding.{Outcome, Told, no_outcome, nothing_told, with_ends, with_needed, with_outcome, with_path_ends}
 use Rattle.rb_want.specs.Needs.{AreStoredBy, IsOutcome, IsOutcomeAt, IsOutcomeIn, Tracking, tracking_at}
 use Rattle.rb_want.specs.Paths.{needs_at}
@@ -101,12 +101,12 @@ path_ends_all es0 es why xs i le is =
     subst (λ zs. es ≡ with_path_ends es0 (flat_map why zs)) (take_all i (enumerate_from 0 xs) (rw (length-enumerate_from 0 xs) le)) is
 
 -- where a client's folders aren't there, nothing comes of it
-pub none_needed : (setup : Setup) (folders : Folders) (c : ℕ × ClientSetup) → tracking_at setup folders.clients.items folders.chains.items c ≡ None
+pub none_needed : (setup : ImportSetup) (folders : Folders) (c : ℕ × ClientSetup) → tracking_at setup folders.clients.items folders.chains.items c ≡ None
     → IsOutcomeAt setup folders c no_outcome
 none_needed setup folders c none = subst (λ t. IsOutcomeIn t no_outcome) (sym none) refl
 
 -- what comes of its case comes of it
-pub case_needed : (setup : Setup) (folders : Folders) (c : ℕ × ClientSetup) (t : Tracking) (stored : List ConsensusState) (o : Outcome)
+pub case_needed : (setup : ImportSetup) (folders : Folders) (c : ℕ × ClientSetup) (t : Tracking) (stored : List ConsensusState) (o : Outcome)
     → tracking_at setup folders.clients.items folders.chains.items c ≡ Some t → AreStoredBy t stored → IsOutcome t stored o → IsOutcomeAt setup folders c o
 case_needed setup folders c t stored o is holds comes = subst (λ u. IsOutcomeIn u o) (sym is) (stored, holds, comes)
 
@@ -115,7 +115,7 @@ pub told_nothing : (w : Told) → w.requests ≡ [] → w.reasons ≡ [] → w.e
 told_nothing w requests reasons ends = λ k. record { requests = requests k; reasons = reasons k; ends = ends k }
 
 -- what the clients need and behind it what the paths need is asked for
-pub all_asked : (setup : Setup) (f f0 f1 : Folders) (clients : List ClientSetup) (paths : List PathSetup) (w0 w1 w2 : Told)
+pub all_asked : (setup : ImportSetup) (f f0 f1 : Folders) (clients : List ClientSetup) (paths : List PathSetup) (w0 w1 w2 : Told)
     → clients ≡ setup.clients.items → paths ≡ setup.paths.items → f0 ≡ f → f1 ≡ f0 → w0 ≡ nothing_told
     → ((outcomes : List Outcome) × AllZip (IsOutcomeAt setup f) (enumerate_from 0 clients) outcomes × (w1 ≡ fold (with_outcome f0) w0 outcomes))
     → w2.requests ≡ with_needed f1 w1.requests (flat_map (needs_at setup.chains.items f.paths.items) (enumerate_from 0 paths))

@@ -6,9 +6,9 @@ use Rattle.rb_want_requests.specs.Ends.{with_end}
 use Rattle.rb_want_requests.specs.declared.content.Folders.{Folders}
 use Rattle.rb_want_requests.specs.declared.reason.End.{End}
 use Rattle.rb_want_requests.specs.declared.reason.PathEnd.{PathEnd}
-use Rattle.rb_want_requests.specs.declared.reason.Why.{Why}
+use Rattle.rb_want_requests.specs.declared.reason.SearchReason.{SearchReason}
 use Rattle.rb_want_requests.specs.declared.request.Request.{Request}
-use Rattle.rb_want_requests.specs.declared.wanted.Wanted.{Wanted}
+use Rattle.rb_want_requests.specs.declared.wanted.NextRequests.{NextRequests}
 
 -- the request is added where it may be
 abbrev pub with_request : Folders → List Request → Request → List Request
@@ -34,7 +34,7 @@ with_path_ends ends more = fold with_end ends more
 -- what a client needs, why it is asked for, and why no more is
 pub record Outcome : Type 0 where
   pub needed : List Request
-  pub reasons : List Why
+  pub reasons : List SearchReason
   pub ends : List End
 
 -- nothing is needed, and all is well
@@ -48,18 +48,18 @@ ended end = record { needed = []; reasons = []; ends = end ∷ [] }
 -- what is asked for clients, why, and why no more is
 pub record Told : Type 0 where
   pub requests : List Request
-  pub reasons : List Why
+  pub reasons : List SearchReason
   pub ends : List End
 
 -- what is wanted, without the folders and the ends of paths
-abbrev pub told_of : Wanted → Told
+abbrev pub told_of : NextRequests → Told
 told_of w = record { requests = w.requests.items; reasons = w.reasons.items; ends = w.ends.items }
 
 abbrev pub nothing_told : Told
 nothing_told = record { requests = []; reasons = []; ends = [] }
 
 -- the reasons, and behind them these where requests came
-abbrev pub reasons_if : Bool → List Why → List Why → List Why
+abbrev pub reasons_if : Bool → List SearchReason → List SearchReason → List SearchReason
 reasons_if true reasons more = reasons ++ more
 reasons_if false reasons more = reasons
 

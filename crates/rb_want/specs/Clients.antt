@@ -1,7 +1,7 @@
 -- What the folder of a client tells of it, and that of the chain that it tracks.
 use Rattle.std.specs.Prelude.{◌≡◌, ◌≢◌, ◌↔◌, ℕ, ◌==◌, nat_le, Contains, Bool, true, false, if◌then◌else◌, List, [], ◌∷◌, Option, Some, None, find, fold, filter, length, option_and_then}
 use Rattle.std.specs.List.{filter_map, flat_map, sum_by}
-use Rattle.rb_import_answers.specs.declared.client.ClientState.{ClientState}
+use Rattle.rb_import_answers.specs.declared.client.TendermintClientState.{TendermintClientState}
 use Rattle.rb_import_answers.specs.declared.client.ConsensusState.{ConsensusState}
 use Rattle.rb_import_answers.specs.declared.commit.SignedHeader.{SignedHeader}
 use Rattle.rb_import_answers.specs.declared.validators.ValidatorsPage.{ValidatorsPage}
@@ -27,12 +27,12 @@ is_other_client contents.OtherClient = true
 is_other_client _ = false
 
 -- the client's state, where the content has it, else the one before
-abbrev pub later_state : Option ClientState → Content → Option ClientState
+abbrev pub later_state : Option TendermintClientState → Content → Option TendermintClientState
 later_state before (contents.ClientState state) = Some state
 later_state before _ = before
 
 -- the client's state, of several the last
-unfoldable pub state_in : List Content → Option ClientState
+unfoldable pub state_in : List Content → Option TendermintClientState
 state_in there = fold later_state None there
 
 -- the consensus states of a page that are of this revision number

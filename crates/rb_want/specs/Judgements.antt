@@ -13,8 +13,8 @@ use Rattle.rb_want_requests.specs.Answered.{is_commit_of}
 use Rattle.rb_want_requests.specs.Requests.{is_named}
 use Rattle.rb_want_requests.specs.declared.request.Query.{Query}
 use Rattle.rb_want_requests.specs.declared.request.Query.TheVariants as queries
-use Rattle.rb_want_requests.specs.declared.judge.Judgement.{Judgement}
-use Rattle.rb_want_requests.specs.declared.judge.Judgement.TheVariants.{Accepted, Refused, Never, Gone, Unknown}
+use Rattle.rb_want_requests.specs.declared.judge.StepJudgement.{StepJudgement}
+use Rattle.rb_want_requests.specs.declared.judge.StepJudgement.TheVariants.{Accepted, Refused, Never, Gone, Unknown}
 use Rattle.rb_want.specs.Clients.{IsHeaderAt}
 use Rattle.rb_want.specs.Steps.{IsRecordAt, IsStepAt, IsVerdictOn, header_of}
 use Rattle.rb_want.specs.Waiting.{HasNoRecord, HasSet, WaitsFor, page_asked}
@@ -85,7 +85,7 @@ IsRefusal verdict = (verdict ≢ Success) × (verdict ≢ Invalid Expired) × (v
 -- What is judged to be accepted is accepted by the step rule at every moment of the window, and what is judged to be refused isn't. Never is a step
 -- accepted from a record that expires, or that lacks the set to trust. A step is gone whose header isn't given, or for which nothing is left to be asked
 -- for; unknown is one that waits for an answer, where neither its record nor its header lacks one that the node refused.
-abbrev pub AreByRule : Steps → ℕ → ℕ → Judgement → Type 0
+abbrev pub AreByRule : Steps → ℕ → ℕ → StepJudgement → Type 0
 AreByRule s trusted height Accepted = (step : Step) × IsStepAt s trusted height step × AcceptsWithin s.options s.window step
 AreByRule s trusted height Refused = (verdict : Verdict) × IsVerdictOn s trusted height verdict × IsRefusal verdict
 AreByRule s trusted height Never = IsExpiring s trusted ⊎ LacksTrust s trusted

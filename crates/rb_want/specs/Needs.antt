@@ -10,11 +10,11 @@ use Rattle.rb_base.specs.Window.{Span}
 use Rattle.rb_base.specs.declared.votes.CarriedVotes.TheVariants as carried
 use Rattle.rb_base.specs.declared.ties.Ties.TheVariants as ties
 use Rattle.rb_import_answers.specs.Revisions.{IsRevision}
-use Rattle.rb_import_answers.specs.declared.client.ClientState.{ClientState}
+use Rattle.rb_import_answers.specs.declared.client.TendermintClientState.{TendermintClientState}
 use Rattle.rb_import_answers.specs.declared.client.ConsensusState.{ConsensusState}
 use Rattle.rb_import_answers.specs.declared.client.TrustLevel.{TrustLevel}
 use Rattle.rb_import_setup.specs.declared.setup.ClientSetup.{ClientSetup}
-use Rattle.rb_import_setup.specs.declared.setup.Setup.{Setup}
+use Rattle.rb_import_setup.specs.declared.setup.ImportSetup.{ImportSetup}
 use Rattle.rb_import_setup.specs.declared.setup.TrustSetup.{TrustSetup}
 use Rattle.rb_import_setup.specs.declared.setup.TurnSetup.{TurnSetup}
 use Rattle.rb_import_setup.specs.Windows.{window_of}
@@ -32,21 +32,21 @@ use Rattle.rb_want_requests.specs.declared.reason.End.{End}
 use Rattle.rb_want_requests.specs.declared.reason.End.TheVariants as endings
 use Rattle.rb_want_requests.specs.declared.reason.Missing.{Missing}
 use Rattle.rb_want_requests.specs.declared.reason.Missing.TheVariants.{State, Records, LatestHeight}
-use Rattle.rb_want_requests.specs.declared.reason.Why.{Why}
+use Rattle.rb_want_requests.specs.declared.reason.SearchReason.{SearchReason}
 use Rattle.rb_want_requests.specs.declared.request.Owner.TheVariants as owners
 use Rattle.rb_want_requests.specs.declared.request.Query.{Query}
 use Rattle.rb_want_requests.specs.declared.request.Query.TheVariants as queries
 use Rattle.rb_want_requests.specs.declared.request.Request.{Request}
 use Rattle.rb_want_requests.specs.Search.{IsFinding}
 use Rattle.rb_want_requests.specs.declared.searching.Aim.{Aim}
-use Rattle.rb_want_requests.specs.declared.searching.Finding.{Finding}
-use Rattle.rb_want_requests.specs.declared.searching.Finding.TheVariants as findings
+use Rattle.rb_want_requests.specs.declared.searching.SearchOutcome.{SearchOutcome}
+use Rattle.rb_want_requests.specs.declared.searching.SearchOutcome.TheVariants as findings
 use Rattle.rb_want_requests.specs.declared.searching.Question.{Question}
 use Rattle.rb_want.specs.Adding.{Outcome, ended, no_outcome}
 use Rattle.rb_want.specs.Clients.{is_other_client, state_in, status_in, stored_in}
 use Rattle.rb_want.specs.Judgements.{AreByRule, IsSaidIf, IsSaidOf}
 use Rattle.rb_want.specs.Waiting.{WaitsFor}
-use Rattle.rb_want.specs.declared.client.Case.{Case}
+use Rattle.rb_want.specs.declared.client.ClientCase.{ClientCase}
 use Rattle.rb_want.specs.declared.judged.Steps.{Steps}
 
 -- a client in its last turn, with what its folder holds, and the folder of the chain that it tracks
@@ -134,7 +134,7 @@ abbrev pub level_of : TrustSetup → TrustLevel
 level_of level = record { numerator = level.numerator; denominator = level.denominator }
 
 -- as the setup says, and where it says nothing as the client's state does
-unfoldable pub options_of : ClientSetup → Option ClientState → Option ClientOptions
+unfoldable pub options_of : ClientSetup → Option TendermintClientState → Option ClientOptions
 options_of c state =
     options_with (option_or c.period (option_map (λ s. s.period) state)) (option_or c.drift (option_map (λ s. s.drift) state))
     (option_or (option_map level_of c.trust) (option_map (λ s. s.trust) state))
@@ -213,12 +213,12 @@ AreStepsOf t options stored s =
     (s.options ≡ options) × (s.window ≡ t.window) × (s.chain.now.folder.now ≡ t.chain) × (map (λ r. r.now) s.records.now ≡ stored)
 
 -- why the step of a question is asked for: between which heights, with what the step rule says of the one that was refused
-abbrev pub why_of : Tracking → ClientOptions → Question → Option Verdict → Why
+abbrev pub why_of : Tracking → ClientOptions → Question → Option Verdict → SearchReason
 why_of t options q said =
     record { client = t.setup.id; trusted = q.trusted; accepted = q.accepted; refused = q.refused; verdict = said; trust = level_in options }
 
 -- why no step goes on from a trusted height: what the step rule says of the one to another
-abbrev pub why_stuck : Tracking → ClientOptions → ℕ → ℕ → Option Verdict → Why
+abbrev pub why_stuck : Tracking → ClientOptions → ℕ → ℕ → Option Verdict → SearchReason
 why_stuck t options trusted height said =
     record { client = t.setup.id; trusted = trusted; accepted = None; refused = Some height; verdict = said; trust = level_in options }
 
@@ -229,7 +229,7 @@ IsAskedBy t options s q o =
     × (o ≡ record { needed = map (node_request t) asked; reasons = why_of t options q said ∷ []; ends = [] })
 
 -- the step that a search asks for; nothing where the search has reached its aim; and else why no step goes on
-abbrev pub IsOutcomeOf : Tracking → ClientOptions → Steps → Finding → Outcome → Type 0
+abbrev pub IsOutcomeOf : Tracking → ClientOptions → Steps → SearchOutcome → Outcome → Type 0
 IsOutcomeOf t options s (findings.Asks q) o = IsAskedBy t options s q o
 IsOutcomeOf t options s (findings.Reached height) o = o ≡ no_outcome
 IsOutcomeOf t options s (findings.Stuck trusted height) o =
@@ -239,7 +239,7 @@ IsOutcomeOf t options s (findings.Stuck trusted height) o =
 abbrev pub IsSoughtFrom : Tracking → ClientOptions → Aim → List ConsensusState → Option ℕ → Outcome → Type 0
 IsSoughtFrom t options aim stored None o = o ≡ ended (endings.NoRecord t.setup.id)
 IsSoughtFrom t options aim stored (Some first) o =
-    (s : Steps) × (finding : Finding) × AreStepsOf t options stored s × IsFinding (AreByRule s) first aim finding × IsOutcomeOf t options s finding o
+    (s : Steps) × (finding : SearchOutcome) × AreStepsOf t options stored s × IsFinding (AreByRule s) first aim finding × IsOutcomeOf t options s finding o
 
 -- with options that are out of range, that these are; without an aim, why there is none
 abbrev pub IsSoughtWith : Tracking → List ConsensusState → Option ClientOptions → Option Aim → Outcome → Type 0
@@ -270,7 +270,7 @@ goal_if place a = if a.client == place then Some a.goal else None
 unfoldable pub goal_at : ℕ → List Asked → Option Goal
 goal_at place goals = slice_get (filter_map (goal_if place) goals) 0
 
-abbrev pub tracking_of : Case → Tracking
+abbrev pub tracking_of : ClientCase → Tracking
 tracking_of c =
     record { place = c.place; setup = c.setup.now; host = c.host; tracks = c.tracks; goal = c.goal; window = c.window; own = c.answers.folder.now; chain = c.chain.now.folder.now }
 
@@ -278,7 +278,7 @@ tracking_of c =
 abbrev pub AreStoredBy : Tracking → List ConsensusState → Type 0
 AreStoredBy t stored = (revision : ℕ) × IsRevision t.tracks revision × IsPermutation (stored_in revision t.own.contents.items) stored
 
-abbrev pub tracking_with : Setup → ℕ → ClientSetup → Option TurnSetup → Option (List ℕ) → Option (List ℕ) → Option Folder → Option Folder → Option Tracking
+abbrev pub tracking_with : ImportSetup → ℕ → ClientSetup → Option TurnSetup → Option (List ℕ) → Option (List ℕ) → Option Folder → Option Folder → Option Tracking
 tracking_with setup place c (Some turn) (Some host) (Some tracks) (Some own) (Some chain) =
     Some (record {
       place = place;
@@ -293,13 +293,13 @@ tracking_with setup place c (Some turn) (Some host) (Some tracks) (Some own) (So
 tracking_with setup place c _ _ _ _ _ = None
 
 -- the client at a place, in the last turn of the setup and in its window there, with its folder and that of the chain that it tracks, where they are there
-unfoldable pub tracking_at : Setup → List Folder → List Folder → ℕ × ClientSetup → Option Tracking
+unfoldable pub tracking_at : ImportSetup → List Folder → List Folder → ℕ × ClientSetup → Option Tracking
 tracking_at setup own chains c =
     tracking_with setup c.0 c.1 (slice_get setup.turns.items (length setup.turns.items - 1)) (slice_get setup.chains.items c.1.host)
     (slice_get setup.chains.items c.1.tracks) (slice_get own c.0) (slice_get chains c.1.tracks)
 
 -- the case is that of the client at a place, over these folders; there is none where one of these isn't there
-abbrev pub IsCaseOf : Setup → List Folder → List Folder → ℕ × ClientSetup → Option Case → Type 0
+abbrev pub IsCaseOf : ImportSetup → List Folder → List Folder → ℕ × ClientSetup → Option ClientCase → Type 0
 IsCaseOf setup own chains c None = tracking_at setup own chains c ≡ None
 IsCaseOf setup own chains c (Some case) =
     (tracking_at setup own chains c ≡ Some (tracking_of case)) × AreStoredBy (tracking_of case) (map (λ r. r.now) case.answers.records.items)
@@ -309,5 +309,5 @@ IsOutcomeIn None o = o ≡ no_outcome
 IsOutcomeIn (Some t) o = (stored : List ConsensusState) × AreStoredBy t stored × IsOutcome t stored o
 
 -- what the client at a place needs, and why, or why no more is asked
-abbrev pub IsOutcomeAt : Setup → Folders → ℕ × ClientSetup → Outcome → Type 0
+abbrev pub IsOutcomeAt : ImportSetup → Folders → ℕ × ClientSetup → Outcome → Type 0
 IsOutcomeAt setup folders c o = IsOutcomeIn (tracking_at setup folders.clients.items folders.chains.items c) o

@@ -9,8 +9,8 @@ ghost use Rattle.rb_want.specs.Wanted.{AreAsked, path_ends_of};
 use crate::chain::ChainAnswers;
 use crate::client::case_of;
 use crate::path::path_case_of;
-use rb_import_setup::{ClientSetup, PathSetup, Setup};
-use rb_want_requests::{Folders, Wanted};
+use rb_import_setup::{ClientSetup, ImportSetup, PathSetup};
+use rb_want_requests::{Folders, NextRequests};
 use std::alloc::{AllocError, Global};
 
 /// The next requests for the last turn of a setup, by the answers in its folders. Of each client: its state,
@@ -19,14 +19,14 @@ use std::alloc::{AllocError, Global};
 /// transactions. `AllocError` comes where a growth is refused.
 pub fn wanted_of<'a>(
     alloc: Global,
-    setup: &'a Setup,
+    setup: &'a ImportSetup,
     folders: &'a Folders,
-) -> Result<Wanted<'a>, AllocError>
+) -> Result<NextRequests<'a>, AllocError>
     ensures folders { IfOk result (λ wanted. wanted.folders.now ≡ folders.entry.now) }
     ensures asked { IfOk result (λ wanted. AreAsked setup.entry.now folders.entry.now (told_of wanted)) }
     ensures path_ends { IfOk result (λ wanted. wanted.path_ends.items ≡ path_ends_of setup.entry.now folders.entry.now) }
 {
-    let mut wanted = Wanted::nothing(alloc, folders);
+    let mut wanted = NextRequests::nothing(alloc, folders);
     let chains = answers_of(alloc, folders)?;
     let clients = setup.clients.as_slice();
     add_clients(
@@ -44,11 +44,11 @@ pub fn wanted_of<'a>(
 /// Adds what is wanted for each client.
 fn add_clients<'a>(
     alloc: Global,
-    setup: &'a Setup,
+    setup: &'a ImportSetup,
     folders: &'a Folders,
     chains: &[ChainAnswers<'a>],
     clients: &'a [ClientSetup],
-    wanted: &mut Wanted<'_>,
+    wanted: &mut NextRequests<'_>,
 ) -> Result<(), AllocError>
     requires { map (λ a. a.folder.now) chains.now ≡ folders.now.chains.items }
     ensures outcomes { OnOk result ((outcomes : List Outcome) × AllZip (IsOutcomeAt setup.entry.now folders.entry.now) (enumerate_from 0 clients.entry.now) outcomes
@@ -65,12 +65,12 @@ fn add_clients<'a>(
 /// Adds what is wanted for the client at a place.
 fn add_client<'a>(
     alloc: Global,
-    setup: &'a Setup,
+    setup: &'a ImportSetup,
     folders: &'a Folders,
     chains: &[ChainAnswers<'a>],
     place: usize,
     client: &'a ClientSetup,
-    wanted: &mut Wanted<'_>,
+    wanted: &mut NextRequests<'_>,
 ) -> Result<(), AllocError>
     requires { map (λ a. a.folder.now) chains.now ≡ folders.now.chains.items }
     ensures outcome { OnOk result ((o : Outcome) × IsOutcomeAt setup.entry.now folders.entry.now (place, client.entry.now) o
@@ -88,10 +88,10 @@ fn add_client<'a>(
 #[tactic(auto, using(crate::proofs::Adding::adding, crate::proofs::Adding::path_ending))]
 fn add_paths<'a>(
     alloc: Global,
-    setup: &Setup,
+    setup: &ImportSetup,
     folders: &'a Folders,
     paths: &[PathSetup],
-    wanted: &mut Wanted<'_>,
+    wanted: &mut NextRequests<'_>,
 ) -> Result<(), AllocError>
     ensures requests { OnOk result (wanted.new.requests.items ≡ with_needed wanted.old.folders.now wanted.old.requests.items
         (flat_map (needs_at setup.now.chains.items folders.entry.now.paths.items) (enumerate_from 0 paths.now))) }
@@ -111,11 +111,11 @@ fn add_paths<'a>(
 #[tactic(auto, using(crate::proofs::Adding::adding, crate::proofs::Adding::path_ending))]
 fn add_path<'a>(
     alloc: Global,
-    setup: &Setup,
+    setup: &ImportSetup,
     folders: &'a Folders,
     place: usize,
     path: &PathSetup,
-    wanted: &mut Wanted<'_>,
+    wanted: &mut NextRequests<'_>,
 ) -> Result<(), AllocError>
     ensures requests { OnOk result (wanted.new.requests.items ≡ with_needed wanted.old.folders.now wanted.old.requests.items
         (needs_at setup.now.chains.items folders.entry.now.paths.items (place, path.now))) }

@@ -14,12 +14,12 @@ use crate::judged::Steps;
 use crate::records::ClientAnswers;
 use rb_base::{ChainId, ClientId, Fraction, Height, Options, Window};
 use rb_import_answers::{ConsensusState, TrustLevel, revision_of};
-use rb_import_setup::{ClientSetup, Setup};
+use rb_import_setup::{ClientSetup, ImportSetup};
 use rb_script_types::{Asked, Goal};
 use rb_step::Verdict;
 use rb_want_requests::{
-    Aim, End, Finding, Folders, Missing, Owner, PartKind, Query, Question, Request, Wanted, Why,
-    has_all, is_named, next_part, search,
+    Aim, End, Folders, Missing, NextRequests, Owner, PartKind, Query, Question, Request,
+    SearchOutcome, SearchReason, has_all, is_named, next_part, search,
 };
 use std::alloc::{AllocError, Global};
 
@@ -28,7 +28,7 @@ const DRIFT_LIMIT: u64 = 1 << 63;
 
 /// A client in the last turn of a setup, with its answers and those of the chain that it tracks.
 #[derive(Drop)]
-pub struct Case<'b, 'a> {
+pub struct ClientCase<'b, 'a> {
     alloc: Global,
     setup: &'a ClientSetup,
     place: usize,
@@ -44,12 +44,12 @@ pub struct Case<'b, 'a> {
 #[tactic(auto, unfolding(crate::specs::Needs::tracking_at))]
 pub fn case_of<'b, 'a>(
     alloc: Global,
-    setup: &'a Setup,
+    setup: &'a ImportSetup,
     folders: &'a Folders,
     chains: &'b [ChainAnswers<'a>],
     place: usize,
     client: &'a ClientSetup,
-) -> Result<Option<Case<'b, 'a>>, AllocError>
+) -> Result<Option<ClientCase<'b, 'a>>, AllocError>
     ensures { IfOk result (IsCaseOf setup.entry.now folders.entry.now.clients.items (map (λ a. a.folder.now) chains.entry.now) (place, client.entry.now)) }
 {
     let (Some(turn), Some(host), Some(tracks), Some(folder), Some(chain)) = (
@@ -63,7 +63,7 @@ pub fn case_of<'b, 'a>(
     };
     let revision = revision_of(tracks.as_str());
     let window = setup.window_of(place, turn.window);
-    Ok(Some(Case {
+    Ok(Some(ClientCase {
         alloc,
         setup: client,
         place,
@@ -108,7 +108,7 @@ struct Judging {
     ghost same: { trust ≡ level_in options },
 }
 
-impl<'b, 'a> Case<'b, 'a> {
+impl<'b, 'a> ClientCase<'b, 'a> {
     fn id(&self) -> ClientId
         ensures { result ≡ self.now.setup.now.id }
     {
@@ -117,7 +117,7 @@ impl<'b, 'a> Case<'b, 'a> {
 
     /// Adds what is wanted for the client.
     #[tactic(auto, using(crate::proofs::Adding::adding, crate::proofs::Adding::ending))]
-    pub fn add_wanted(&self, wanted: &mut Wanted<'_>) -> Result<(), AllocError>
+    pub fn add_wanted(&self, wanted: &mut NextRequests<'_>) -> Result<(), AllocError>
         ensures outcome { OnOk result ((o : Outcome) × IsOutcome (tracking_of self.now) (map (λ r. r.now) self.now.answers.records.items) o
             × (told_of wanted.new ≡ with_outcome wanted.old.folders.now (told_of wanted.old) o)) }
         ensures folders { wanted.new.folders ≡ wanted.old.folders }
@@ -136,7 +136,7 @@ impl<'b, 'a> Case<'b, 'a> {
 
     /// Adds what is missing of the client's state, its records and the chain's latest height, and tells whether something is.
     #[tactic(auto, unfolding(crate::specs::Needs::first_needs, crate::specs::Needs::first_ends), using(crate::proofs::Adding::adding, crate::proofs::Adding::ending))]
-    fn add_missing(&self, wanted: &mut Wanted<'_>) -> Result<bool, AllocError>
+    fn add_missing(&self, wanted: &mut NextRequests<'_>) -> Result<bool, AllocError>
         ensures lacks { IfOk result (λ lacks. lacks ≡ lacks_first (tracking_of self.now)) }
         ensures requests { OnOk result (wanted.new.requests.items ≡ with_needed wanted.old.folders.now wanted.old.requests.items (first_needs (tracking_of self.now))) }
         ensures folders { wanted.new.folders ≡ wanted.old.folders }
@@ -152,7 +152,7 @@ impl<'b, 'a> Case<'b, 'a> {
 
     /// Adds the client's state, if it is needed and isn't there, and tells whether that is so.
     #[tactic(auto, using(crate::proofs::Adding::adding, crate::proofs::Adding::ending))]
-    fn add_state(&self, wanted: &mut Wanted<'_>) -> Result<bool, AllocError>
+    fn add_state(&self, wanted: &mut NextRequests<'_>) -> Result<bool, AllocError>
         ensures lacks { IfOk result (λ lacks. lacks ≡ lacks_state (tracking_of self.now)) }
         ensures requests { OnOk result (wanted.new.requests.items ≡ with_needed wanted.old.folders.now wanted.old.requests.items
             (if lacks_state (tracking_of self.now) then host_request (tracking_of self.now) queries.ClientState ∷ [] else [])) }
@@ -171,7 +171,7 @@ impl<'b, 'a> Case<'b, 'a> {
 
     /// Adds the next page of the client's records, if one isn't there, and tells whether that is so.
     #[tactic(auto, using(crate::proofs::Adding::adding, crate::proofs::Adding::ending))]
-    fn add_states(&self, wanted: &mut Wanted<'_>) -> Result<bool, AllocError>
+    fn add_states(&self, wanted: &mut NextRequests<'_>) -> Result<bool, AllocError>
         ensures lacks { IfOk result (λ lacks. lacks ≡ lacks_states (tracking_of self.now)) }
         ensures requests { OnOk result (wanted.new.requests.items ≡ with_needed wanted.old.folders.now wanted.old.requests.items
             (if lacks_states (tracking_of self.now) then host_request (tracking_of self.now) (queries.ConsensusStates (next_states (tracking_of self.now))) ∷ [] else [])) }
@@ -192,7 +192,7 @@ impl<'b, 'a> Case<'b, 'a> {
 
     /// Adds the status of the chain's node, if it isn't there, and tells whether that is so.
     #[tactic(auto, using(crate::proofs::Adding::adding, crate::proofs::Adding::ending))]
-    fn add_status(&self, wanted: &mut Wanted<'_>) -> Result<bool, AllocError>
+    fn add_status(&self, wanted: &mut NextRequests<'_>) -> Result<bool, AllocError>
         ensures lacks { IfOk result (λ lacks. lacks ≡ lacks_status (tracking_of self.now)) }
         ensures requests { OnOk result (wanted.new.requests.items ≡ with_needed wanted.old.folders.now wanted.old.requests.items
             (if lacks_status (tracking_of self.now) then node_request (tracking_of self.now) queries.Status ∷ [] else [])) }
@@ -223,7 +223,7 @@ impl<'b, 'a> Case<'b, 'a> {
     #[tactic(auto, using(crate::proofs::Adding::adding, crate::proofs::Adding::ending))]
     fn ask_host(
         &self,
-        wanted: &mut Wanted<'_>,
+        wanted: &mut NextRequests<'_>,
         query: Query,
         missing: Missing,
     ) -> Result<(), AllocError>
@@ -262,7 +262,7 @@ impl<'b, 'a> Case<'b, 'a> {
 
     /// Asks a node of the chain that the client tracks.
     #[tactic(auto, using(crate::proofs::Adding::adding, crate::proofs::Adding::ending))]
-    fn ask_node(&self, wanted: &mut Wanted<'_>, query: Query) -> Result<(), AllocError>
+    fn ask_node(&self, wanted: &mut NextRequests<'_>, query: Query) -> Result<(), AllocError>
         ensures requests { OnOk result (wanted.new.requests.items ≡ with_needed wanted.old.folders.now wanted.old.requests.items (node_request (tracking_of self.now) query ∷ [])) }
         ensures folders { wanted.new.folders ≡ wanted.old.folders }
         ensures reasons { wanted.new.reasons ≡ wanted.old.reasons }
@@ -304,7 +304,7 @@ impl<'b, 'a> Case<'b, 'a> {
     /// The heights that the client's search aims at: its goal, or the greatest height with final votes, the one
     /// before the node's latest. None, with an end that says why, where the chain isn't there yet.
     #[tactic(auto, unfolding(crate::specs::Needs::aim_of, crate::specs::Needs::aim_ends), using(crate::proofs::Adding::ending))]
-    fn aim(&self, wanted: &mut Wanted<'_>) -> Result<Option<Aim>, AllocError>
+    fn aim(&self, wanted: &mut NextRequests<'_>) -> Result<Option<Aim>, AllocError>
         ensures aim { IfOk result (λ aim. aim ≡ aim_of (tracking_of self.now) (map (λ r. r.now) self.now.answers.records.items)) }
         ensures requests { wanted.new.requests ≡ wanted.old.requests }
         ensures folders { wanted.new.folders ≡ wanted.old.folders }
@@ -328,7 +328,11 @@ impl<'b, 'a> Case<'b, 'a> {
 
     /// The heights that the search aims at, up to the greatest with final votes.
     #[tactic(auto, using(crate::proofs::Adding::ending))]
-    fn aim_below(&self, wanted: &mut Wanted<'_>, latest: Height) -> Result<Option<Aim>, AllocError>
+    fn aim_below(
+        &self,
+        wanted: &mut NextRequests<'_>,
+        latest: Height,
+    ) -> Result<Option<Aim>, AllocError>
         ensures aim { IfOk result (λ aim. aim ≡ aim_below self.now.goal (map (λ r. r.now) self.now.answers.records.items) latest) }
         ensures requests { wanted.new.requests ≡ wanted.old.requests }
         ensures folders { wanted.new.folders ≡ wanted.old.folders }
@@ -355,7 +359,7 @@ impl<'b, 'a> Case<'b, 'a> {
 
     /// Adds what the client's search asks for, if it can be searched.
     #[tactic(auto, using(crate::proofs::Adding::adding, crate::proofs::Adding::ending))]
-    fn add_sought(&self, wanted: &mut Wanted<'_>) -> Result<(), AllocError>
+    fn add_sought(&self, wanted: &mut NextRequests<'_>) -> Result<(), AllocError>
         ensures outcome { OnOk result ((o : Outcome) × IsSought (tracking_of self.now) (map (λ r. r.now) self.now.answers.records.items) o
             × (told_of wanted.new ≡ with_outcome wanted.old.folders.now (told_of wanted.old) o)) }
         ensures folders { wanted.new.folders ≡ wanted.old.folders }
@@ -382,7 +386,7 @@ impl<'b, 'a> Case<'b, 'a> {
     #[tactic(auto, using(crate::proofs::Adding::adding, crate::proofs::Adding::ending))]
     fn add_search(
         &self,
-        wanted: &mut Wanted<'_>,
+        wanted: &mut NextRequests<'_>,
         judging: &Judging,
         first: Height,
         aim: &Aim,
@@ -395,10 +399,10 @@ impl<'b, 'a> Case<'b, 'a> {
     {
         let steps = self.steps_of(judging);
         match search(&steps, first, aim)? {
-            Finding::Reached(_) => Ok(()),
-            Finding::Asks(question) => self.add_question(wanted, &steps, judging, &question),
-            Finding::Stuck { trusted, height } => {
-                let why = Why {
+            SearchOutcome::Reached(_) => Ok(()),
+            SearchOutcome::Asks(question) => self.add_question(wanted, &steps, judging, &question),
+            SearchOutcome::Stuck { trusted, height } => {
+                let why = SearchReason {
                     client: self.id(),
                     trusted,
                     accepted: None,
@@ -428,7 +432,7 @@ impl<'b, 'a> Case<'b, 'a> {
     /// Adds the requests that judge the step of a question, and the reason.
     fn add_question(
         &self,
-        wanted: &mut Wanted<'_>,
+        wanted: &mut NextRequests<'_>,
         steps: &Steps<'_, 'a>,
         judging: &Judging,
         question: &Question,
@@ -445,7 +449,7 @@ impl<'b, 'a> Case<'b, 'a> {
         if wanted.requests.len() == before {
             return Ok(());
         }
-        wanted.reasons.push(Why {
+        wanted.reasons.push(SearchReason {
             client: self.id(),
             trusted: question.trusted,
             accepted: question.accepted,
@@ -458,7 +462,7 @@ impl<'b, 'a> Case<'b, 'a> {
 
     /// Asks a node of the chain that the client tracks for each of these.
     #[tactic(auto, using(crate::proofs::Adding::adding, crate::proofs::Adding::one_query_more))]
-    fn add_queries(&self, wanted: &mut Wanted<'_>, asked: &[Query]) -> Result<(), AllocError>
+    fn add_queries(&self, wanted: &mut NextRequests<'_>, asked: &[Query]) -> Result<(), AllocError>
         ensures requests { OnOk result (wanted.new.requests.items ≡ with_needed wanted.old.folders.now wanted.old.requests.items (map (node_request (tracking_of self.now)) asked.now)) }
         ensures folders { wanted.new.folders ≡ wanted.old.folders }
         ensures reasons { wanted.new.reasons ≡ wanted.old.reasons }
@@ -488,7 +492,7 @@ fn verdict_if(
 
 /// Adds why no more is asked for a client.
 #[tactic(auto, unfolding(crate::specs::Adding::with_ends))]
-fn add_end(wanted: &mut Wanted<'_>, end: End) -> Result<(), AllocError>
+fn add_end(wanted: &mut NextRequests<'_>, end: End) -> Result<(), AllocError>
     ensures requests { wanted.new.requests ≡ wanted.old.requests }
     ensures folders { wanted.new.folders ≡ wanted.old.folders }
     ensures reasons { wanted.new.reasons ≡ wanted.old.reasons }

@@ -10,10 +10,11 @@ ghost use Rattle.rb_want.specs.Paths.{IsCaseAt, block_needs, packet_needs, part_
 
 use crate::packets::{PacketAnswers, sent_block, tell_ack_written, written_block};
 use rb_base::{ChainId, Height, PathId};
-use rb_import_setup::{PathSetup, Setup};
+use rb_import_setup::{ImportSetup, PathSetup};
 use rb_script_types::{ChannelEnd, Waits};
 use rb_want_requests::{
-    Folder, Folders, Owner, PartKind, PathEnd, Query, Request, Wanted, has_all, is_named, next_part,
+    Folder, Folders, NextRequests, Owner, PartKind, PathEnd, Query, Request, has_all, is_named,
+    next_part,
 };
 use std::alloc::{AllocError, Global};
 
@@ -42,7 +43,7 @@ pub struct PathCase<'a> {
 #[tactic(auto, unfolding(crate::specs::Paths::named_path))]
 pub fn path_case_of<'a>(
     alloc: Global,
-    setup: &Setup,
+    setup: &ImportSetup,
     folders: &'a Folders,
     place: usize,
     path: &PathSetup,
@@ -85,7 +86,7 @@ impl PathCase<'_> {
     /// Adds the requests for the path: its commitments; then which of these packets were received, and which
     /// acknowledgements were written; then where each was sent, received and acknowledged; then since when each waits.
     #[tactic(auto, unfolding(crate::specs::Paths::path_needs, crate::specs::Paths::path_ends), using(crate::proofs::Adding::adding, crate::proofs::Adding::path_ending))]
-    pub fn add_wanted(&self, wanted: &mut Wanted<'_>) -> Result<(), AllocError>
+    pub fn add_wanted(&self, wanted: &mut NextRequests<'_>) -> Result<(), AllocError>
         ensures requests { OnOk result (wanted.new.requests.items ≡ with_needed wanted.old.folders.now wanted.old.requests.items (path_needs (path_view self.now) self.now.answers.folder.now)) }
         ensures folders { wanted.new.folders ≡ wanted.old.folders }
         ensures reasons { wanted.new.reasons ≡ wanted.old.reasons }
@@ -104,7 +105,7 @@ impl PathCase<'_> {
 
     /// Adds what became of each part of the pending packets.
     #[tactic(auto, using(crate::proofs::Adding::adding, crate::proofs::Adding::path_ending))]
-    fn add_parts(&self, wanted: &mut Wanted<'_>) -> Result<(), AllocError>
+    fn add_parts(&self, wanted: &mut NextRequests<'_>) -> Result<(), AllocError>
         ensures requests { OnOk result (wanted.new.requests.items ≡ with_needed wanted.old.folders.now wanted.old.requests.items
             (flat_map (part_needs (path_view self.now)) (range_with_len 1 (parts_in self.now.answers.folder.now.contents.items)))) }
         ensures folders { wanted.new.folders ≡ wanted.old.folders }
@@ -121,7 +122,7 @@ impl PathCase<'_> {
 
     /// Adds what became of a part of the pending packets.
     #[tactic(auto, using(crate::proofs::Adding::adding, crate::proofs::Adding::path_ending))]
-    fn add_part(&self, wanted: &mut Wanted<'_>, part: u64) -> Result<(), AllocError>
+    fn add_part(&self, wanted: &mut NextRequests<'_>, part: u64) -> Result<(), AllocError>
         ensures requests { OnOk result (wanted.new.requests.items ≡ with_needed wanted.old.folders.now wanted.old.requests.items (part_needs (path_view self.now) part)) }
         ensures folders { wanted.new.folders ≡ wanted.old.folders }
         ensures reasons { wanted.new.reasons ≡ wanted.old.reasons }
@@ -134,7 +135,7 @@ impl PathCase<'_> {
 
     /// Adds where each pending packet was sent, received and acknowledged.
     #[tactic(auto, using(crate::proofs::Adding::adding, crate::proofs::Adding::path_ending))]
-    fn add_packets(&self, wanted: &mut Wanted<'_>) -> Result<(), AllocError>
+    fn add_packets(&self, wanted: &mut NextRequests<'_>) -> Result<(), AllocError>
         ensures requests { OnOk result (wanted.new.requests.items ≡ with_needed wanted.old.folders.now wanted.old.requests.items
             (flat_map (packet_needs (path_view self.now) self.now.answers.folder.now) (pending_in self.now.answers.folder.now.contents.items))) }
         ensures folders { wanted.new.folders ≡ wanted.old.folders }
@@ -158,7 +159,7 @@ impl PathCase<'_> {
     /// Adds the search for the sending of a pending packet of the path and, once it has an answer, for its
     /// receiving and its acknowledgement.
     #[tactic(auto, unfolding(crate::specs::Paths::packet_needs), using(crate::proofs::Adding::adding, crate::proofs::Adding::path_ending))]
-    fn add_packet(&self, wanted: &mut Wanted<'_>, sequence: u64) -> Result<(), AllocError>
+    fn add_packet(&self, wanted: &mut NextRequests<'_>, sequence: u64) -> Result<(), AllocError>
         ensures requests { OnOk result (wanted.new.requests.items ≡ with_needed wanted.old.folders.now wanted.old.requests.items (packet_needs (path_view self.now) self.now.answers.folder.now sequence)) }
         ensures folders { wanted.new.folders ≡ wanted.old.folders }
         ensures reasons { wanted.new.reasons ≡ wanted.old.reasons }
@@ -181,7 +182,7 @@ impl PathCase<'_> {
 
     /// Adds what tells since when each pending packet waits.
     #[tactic(auto, using(crate::proofs::Adding::adding, crate::proofs::Adding::path_ending))]
-    fn add_times(&self, wanted: &mut Wanted<'_>) -> Result<(), AllocError>
+    fn add_times(&self, wanted: &mut NextRequests<'_>) -> Result<(), AllocError>
         ensures requests { OnOk result (wanted.new.requests.items ≡ with_needed wanted.old.folders.now wanted.old.requests.items
             (flat_map (time_needs (path_view self.now) self.now.answers.folder.now) (pending_in self.now.answers.folder.now.contents.items))) }
         ensures folders { wanted.new.folders ≡ wanted.old.folders }
@@ -198,7 +199,7 @@ impl PathCase<'_> {
     /// Adds what tells since when a pending packet waits: the header of the block that sent it or, where it was received, of
     /// the block that wrote its acknowledgement.
     #[tactic(auto, unfolding(crate::specs::Paths::time_needs), using(crate::proofs::Adding::adding, crate::proofs::Adding::path_ending))]
-    fn add_time(&self, wanted: &mut Wanted<'_>, sequence: u64) -> Result<(), AllocError>
+    fn add_time(&self, wanted: &mut NextRequests<'_>, sequence: u64) -> Result<(), AllocError>
         ensures requests { OnOk result (wanted.new.requests.items ≡ with_needed wanted.old.folders.now wanted.old.requests.items (time_needs (path_view self.now) self.now.answers.folder.now sequence)) }
         ensures folders { wanted.new.folders ≡ wanted.old.folders }
         ensures reasons { wanted.new.reasons ≡ wanted.old.reasons }
@@ -217,7 +218,7 @@ impl PathCase<'_> {
 
     /// Adds the header of the block that sent a packet, where its receive may wait.
     #[tactic(auto, using(crate::proofs::Adding::adding, crate::proofs::Adding::path_ending))]
-    fn add_sent_time(&self, wanted: &mut Wanted<'_>, sequence: u64) -> Result<(), AllocError>
+    fn add_sent_time(&self, wanted: &mut NextRequests<'_>, sequence: u64) -> Result<(), AllocError>
         ensures requests { OnOk result (wanted.new.requests.items ≡ with_needed wanted.old.folders.now wanted.old.requests.items (sent_time_needs (path_view self.now) self.now.answers.folder.now sequence)) }
         ensures folders { wanted.new.folders ≡ wanted.old.folders }
         ensures reasons { wanted.new.reasons ≡ wanted.old.reasons }
@@ -235,7 +236,11 @@ impl PathCase<'_> {
 
     /// Adds the header of the block that wrote the acknowledgement of a packet, where that may wait.
     #[tactic(auto, using(crate::proofs::Adding::adding, crate::proofs::Adding::path_ending))]
-    fn add_written_time(&self, wanted: &mut Wanted<'_>, sequence: u64) -> Result<(), AllocError>
+    fn add_written_time(
+        &self,
+        wanted: &mut NextRequests<'_>,
+        sequence: u64,
+    ) -> Result<(), AllocError>
         ensures requests { OnOk result (wanted.new.requests.items ≡ with_needed wanted.old.folders.now wanted.old.requests.items (written_time_needs (path_view self.now) self.now.answers.folder.now sequence)) }
         ensures folders { wanted.new.folders ≡ wanted.old.folders }
         ensures reasons { wanted.new.reasons ≡ wanted.old.reasons }
@@ -263,7 +268,7 @@ impl PathCase<'_> {
     #[tactic(auto, using(crate::proofs::Adding::adding, crate::proofs::Adding::path_ending))]
     fn ask_block(
         &self,
-        wanted: &mut Wanted<'_>,
+        wanted: &mut NextRequests<'_>,
         side: &Side,
         block: &Option<Height>,
     ) -> Result<(), AllocError>
@@ -302,7 +307,12 @@ impl PathCase<'_> {
 
     /// Asks an end of the channel, and tells where it refused that.
     #[tactic(auto, using(crate::proofs::Adding::path_ending))]
-    fn need(&self, wanted: &mut Wanted<'_>, side: &Side, query: Query) -> Result<(), AllocError>
+    fn need(
+        &self,
+        wanted: &mut NextRequests<'_>,
+        side: &Side,
+        query: Query,
+    ) -> Result<(), AllocError>
         ensures requests { OnOk result (wanted.new.requests.items ≡ with_needed wanted.old.folders.now wanted.old.requests.items (side_request (path_view self.now) side.now query ∷ [])) }
         ensures folders { wanted.new.folders ≡ wanted.old.folders }
         ensures reasons { wanted.new.reasons ≡ wanted.old.reasons }
@@ -320,7 +330,12 @@ impl PathCase<'_> {
 
     /// Asks an end of the channel.
     #[tactic(auto, using(crate::proofs::Adding::adding, crate::proofs::Adding::path_ending))]
-    fn ask(&self, wanted: &mut Wanted<'_>, side: &Side, query: Query) -> Result<(), AllocError>
+    fn ask(
+        &self,
+        wanted: &mut NextRequests<'_>,
+        side: &Side,
+        query: Query,
+    ) -> Result<(), AllocError>
         ensures requests { OnOk result (wanted.new.requests.items ≡ with_needed wanted.old.folders.now wanted.old.requests.items (side_request (path_view self.now) side.now query ∷ [])) }
         ensures folders { wanted.new.folders ≡ wanted.old.folders }
         ensures reasons { wanted.new.reasons ≡ wanted.old.reasons }

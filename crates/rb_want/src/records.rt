@@ -5,7 +5,7 @@ ghost use Rattle.std.specs.List.Sorted.{IsNonDecreasingBy, IsPermutation};
 ghost use Rattle.std.specs.Option.{option_copied};
 ghost use Rattle.rb_want.specs.Clients.{is_other_client, later_state, state_in, states_of, stored_in};
 
-use rb_import_answers::{ClientState, ConsensusState};
+use rb_import_answers::{ConsensusState, TendermintClientState};
 use rb_want_requests::{Content, Folder};
 use std::alloc::{AllocError, Global};
 
@@ -14,7 +14,7 @@ use std::alloc::{AllocError, Global};
 #[derive(Drop)]
 pub struct ClientAnswers<'a> {
     pub folder: &'a Folder,
-    pub state: Option<&'a ClientState>,
+    pub state: Option<&'a TendermintClientState>,
     pub is_other: bool,
     pub records: Vec<&'a ConsensusState>,
     ghost judging: { option_copied state ≡ state_in folder.now.contents.items },
@@ -46,7 +46,7 @@ impl<'a> ClientAnswers<'a> {
 
 /// The client's state, of several the last.
 #[tactic(auto, using(crate::proofs::Taking::taking))]
-fn state_in(contents: &[Content]) -> Option<&ClientState>
+fn state_in(contents: &[Content]) -> Option<&TendermintClientState>
     ensures { option_copied result ≡ state_in contents.now }
 {
     let mut last = None;
@@ -57,7 +57,10 @@ fn state_in(contents: &[Content]) -> Option<&ClientState>
 }
 
 /// The client's state, where the content has it, else the one before.
-fn later_state<'a>(before: Option<&'a ClientState>, content: &'a Content) -> Option<&'a ClientState>
+fn later_state<'a>(
+    before: Option<&'a TendermintClientState>,
+    content: &'a Content,
+) -> Option<&'a TendermintClientState>
     ensures { option_copied result ≡ later_state (option_copied before.entry) content.entry.now }
 {
     match content {

@@ -16,7 +16,7 @@ use rb_import_answers::{BlockIdFlag, ConsensusState, Signature, SignedHeader};
 use rb_step::laws::{answer_applies, window_is_by_ends};
 use rb_step::{Reason, Verdict, verify};
 use rb_valset::ValidatorSet;
-use rb_want_requests::{Judge, Judgement, Query};
+use rb_want_requests::{Judge, Query, StepJudgement};
 use std::alloc::{AllocError, Global};
 
 /// The most requests that a step waits for at once: for the set that its trusted record names, for its header, and for the
@@ -29,7 +29,7 @@ impl Judge for Steps<'_, '_> {
     ghost judges = { AreByRule };
 
     #[tactic(auto, using(crate::proofs::Judging::by_rule))]
-    fn judge(&self, trusted: Height, height: Height) -> Result<Judgement, AllocError> {
+    fn judge(&self, trusted: Height, height: Height) -> Result<StepJudgement, AllocError> {
         match self.verdict_on(trusted, height)? {
             Some(verdict) => Ok(judgement_of(verdict)),
             None => self.judgement_without(trusted, height),
@@ -38,16 +38,16 @@ impl Judge for Steps<'_, '_> {
 }
 
 /// What a verdict of the step rule says of a step, and of others from its trusted height.
-fn judgement_of(verdict: Verdict) -> Judgement
-    ensures accepted { result ≡ Judgement.Accepted → verdict ≡ Verdict.Success }
-    ensures refused { result ≡ Judgement.Refused → IsRefusal verdict }
-    ensures never { result ≡ Judgement.Never → (verdict ≡ Verdict.Invalid Reason.Expired) ⊎ (verdict ≡ Verdict.Invalid Reason.TrustedSetUnknown) }
-    ensures decided { (result ≢ Judgement.Gone) × (result ≢ Judgement.Unknown) }
+fn judgement_of(verdict: Verdict) -> StepJudgement
+    ensures accepted { result ≡ StepJudgement.Accepted → verdict ≡ Verdict.Success }
+    ensures refused { result ≡ StepJudgement.Refused → IsRefusal verdict }
+    ensures never { result ≡ StepJudgement.Never → (verdict ≡ Verdict.Invalid Reason.Expired) ⊎ (verdict ≡ Verdict.Invalid Reason.TrustedSetUnknown) }
+    ensures decided { (result ≢ StepJudgement.Gone) × (result ≢ StepJudgement.Unknown) }
 {
     match verdict {
-        Verdict::Success => Judgement::Accepted,
-        Verdict::Invalid(Reason::Expired | Reason::TrustedSetUnknown) => Judgement::Never,
-        Verdict::Invalid(_) | Verdict::NotEnoughTrust { .. } => Judgement::Refused,
+        Verdict::Success => StepJudgement::Accepted,
+        Verdict::Invalid(Reason::Expired | Reason::TrustedSetUnknown) => StepJudgement::Never,
+        Verdict::Invalid(_) | Verdict::NotEnoughTrust { .. } => StepJudgement::Refused,
     }
 }
 
@@ -100,20 +100,24 @@ impl<'b, 'a> Steps<'b, 'a> {
 
     /// How a step is judged on which there is no verdict: `Never` where the trusted record or the set that it names isn't
     /// given, `Gone` where the header or its set isn't.
-    fn judgement_without(&self, trusted: Height, height: Height) -> Result<Judgement, AllocError>
+    fn judgement_without(
+        &self,
+        trusted: Height,
+        height: Height,
+    ) -> Result<StepJudgement, AllocError>
         ensures { IfOk result (AreByRule self.now trusted height) }
     {
         if !self.may_be_trusted(trusted)? {
-            return Ok(Judgement::Never);
+            return Ok(StepJudgement::Never);
         }
         if !self.may_come(height)? {
-            return Ok(Judgement::Gone);
+            return Ok(StepJudgement::Gone);
         }
         let lacks = self.lacks(trusted, height)?;
         if lacks.is_empty() {
-            return Ok(Judgement::Gone);
+            return Ok(StepJudgement::Gone);
         }
-        Ok(Judgement::Unknown)
+        Ok(StepJudgement::Unknown)
     }
 
     /// Whether the record of a height is there, and the set that it names is there or may still come.

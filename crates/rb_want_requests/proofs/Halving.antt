@@ -4,7 +4,7 @@ use Rattle.std.specs.Prelude.{Option, unwrap_or}
 use Rattle.std.proofs.Math.Nat.{le-mul_of_pos_right, mul_assoc, mul-le-mul_left, pow-suc}
 use Rattle.rb_want_requests.specs.Halving.{IsClosedBy}
 use Rattle.rb_want_requests.specs.Search.{HalvesGap, IsFloor, IsGapAfter, IsNotAccepted, Judgements, middle_of}
-use Rattle.rb_want_requests.specs.declared.judge.Judgement.TheVariants.{Accepted, Gone, Refused}
+use Rattle.rb_want_requests.specs.declared.judge.StepJudgement.TheVariants.{Accepted, Gone, Refused}
 use Rattle.rb_want_requests.specs.declared.searching.Aim.{Aim}
 
 -- a half of a gap of at most 2^(k+1) heights has at most 2^k

@@ -5,45 +5,45 @@ use Rattle.std.proofs.Math.Pow.{pow_mono}
 use Rattle.std.proofs.lemmas.Bool.{cases_lt, true≢false}
 use Rattle.std.proofs.lemmas.List.Elements.{All-tail}
 use Rattle.rb_want_requests.specs.Search.{IsGapAfter, IsHalved, IsNext, middle_of}
-use Rattle.rb_want_requests.specs.declared.judge.Judgement.{Judgement}
-use Rattle.rb_want_requests.specs.declared.judge.Judgement.TheVariants.{Accepted, Refused, Gone, Unknown}
+use Rattle.rb_want_requests.specs.declared.judge.StepJudgement.{StepJudgement}
+use Rattle.rb_want_requests.specs.declared.judge.StepJudgement.TheVariants.{Accepted, Refused, Gone, Unknown}
 use Rattle.rb_want_requests.specs.declared.searching.Aim.{Aim}
 use Rattle.rb_want_requests.specs.Rounds.{Asks, FewFromOne, IsLater, Round, judged_by}
 
 -- ---- judgements
 
-abbrev is_unknown : Judgement → Bool
+abbrev is_unknown : StepJudgement → Bool
 is_unknown Unknown = true
 is_unknown _ = false
 
-judged_so : (j : Judgement) → is_unknown j ≡ false → j ≢ Unknown
+judged_so : (j : StepJudgement) → is_unknown j ≡ false → j ≢ Unknown
 judged_so j is same = true≢false (sym (ap is_unknown same) ∙ is)
 
-abbrev is_refused : Judgement → Bool
+abbrev is_refused : StepJudgement → Bool
 is_refused Refused = true
 is_refused _ = false
 
-not_both : (i j : Judgement) → is_refused i ≡ false → i ≡ j → j ≡ Refused → ⊥
+not_both : (i j : StepJudgement) → is_refused i ≡ false → i ≡ j → j ≡ Refused → ⊥
 not_both i j passes same is = true≢false (sym (ap is_refused (same ∙ is)) ∙ passes)
 
 -- ---- gaps
 
 module _ (aim : Aim) (trusted : ℕ) where
   -- this gap is left after so many halvings, by these judgements
-  abbrev pub Gap : (ℕ → ℕ → Judgement) → ℕ → ℕ → ℕ → Type 0
+  abbrev pub Gap : (ℕ → ℕ → StepJudgement) → ℕ → ℕ → ℕ → Type 0
   Gap judge n floor ceiling = IsGapAfter (judged_by judge) aim trusted n floor ceiling
 
-  abbrev Halved : (ℕ → ℕ → Judgement) → ℕ → ℕ → ℕ → ℕ → Type 0
+  abbrev Halved : (ℕ → ℕ → StepJudgement) → ℕ → ℕ → ℕ → ℕ → Type 0
   Halved judge floor ceiling lower upper = IsHalved (judged_by judge) trusted floor ceiling lower upper
 
-  abbrev Stay : (ℕ → ℕ → Judgement) → (ℕ → ℕ → Judgement) → Type 0
+  abbrev Stay : (ℕ → ℕ → StepJudgement) → (ℕ → ℕ → StepJudgement) → Type 0
   Stay before after = (t h : ℕ) → before t h ≢ Unknown → after t h ≡ before t h
 
-  judged_stays : (before after : ℕ → ℕ → Judgement) (h : ℕ) (j : Judgement) → Stay before after → is_unknown j ≡ false → before trusted h ≡ j
+  judged_stays : (before after : ℕ → ℕ → StepJudgement) (h : ℕ) (j : StepJudgement) → Stay before after → is_unknown j ≡ false → before trusted h ≡ j
       → after trusted h ≡ j
   judged_stays before after h j stay other is = stay trusted h (subst (λ i. i ≢ Unknown) (sym is) (judged_so j other)) ∙ is
 
-  halved_stays : (before after : ℕ → ℕ → Judgement) (f c lower upper : ℕ) → Stay before after → Halved before f c lower upper
+  halved_stays : (before after : ℕ → ℕ → StepJudgement) (f c lower upper : ℕ) → Stay before after → Halved before f c lower upper
       → Halved after f c lower upper
   halved_stays before after f c lower upper stay (wide, inl (low, up, inl is)) =
       (wide, inl (low, up, inl (judged_stays before after lower Accepted stay refl is)))
@@ -52,19 +52,19 @@ module _ (aim : Aim) (trusted : ℕ) where
   halved_stays before after f c lower upper stay (wide, inr (low, up, is)) =
       (wide, inr (low, up, judged_stays before after upper Refused stay refl is))
 
-  gap_stays : (before after : ℕ → ℕ → Judgement) (n f c : ℕ) → Stay before after → Gap before n f c → Gap after n f c
+  gap_stays : (before after : ℕ → ℕ → StepJudgement) (n f c : ℕ) → Stay before after → Gap before n f c → Gap after n f c
   gap_stays before after zero f c stay gap = gap
   gap_stays before after (suc n) f c stay (f0, c0, gap, halved) =
       (f0, c0, gap_stays before after n f0 c0 stay gap, halved_stays before after f0 c0 f c stay halved)
 
   -- the middle that is left as the floor was not refused
-  passed : (judge : ℕ → ℕ → Judgement) (lower : ℕ) → (judge trusted lower ≡ Accepted) ⊎ (judge trusted lower ≡ Gone) → judge trusted lower ≡ Refused
+  passed : (judge : ℕ → ℕ → StepJudgement) (lower : ℕ) → (judge trusted lower ≡ Accepted) ⊎ (judge trusted lower ≡ Gone) → judge trusted lower ≡ Refused
       → ⊥
   passed judge lower (inl is) other = not_both Accepted (judge trusted lower) refl (sym is) other
   passed judge lower (inr is) other = not_both Gone (judge trusted lower) refl (sym is) other
 
   -- a gap is halved in one way
-  one_half : (judge : ℕ → ℕ → Judgement) (f c a b x y : ℕ) → Halved judge f c a b → Halved judge f c x y → (a ≡ x) × (b ≡ y)
+  one_half : (judge : ℕ → ℕ → StepJudgement) (f c a b x y : ℕ) → Halved judge f c a b → Halved judge f c x y → (a ≡ x) × (b ≡ y)
   one_half judge f c a b x y (wide, inl (low, up, is)) (more, inl (down, top, other)) = (low ∙ sym down, up ∙ sym top)
   one_half judge f c a b x y (wide, inr (low, up, is)) (more, inr (down, top, other)) = (low ∙ sym down, up ∙ sym top)
   one_half judge f c a b x y (wide, inl (low, up, is)) (more, inr (down, top, other)) =
@@ -73,7 +73,7 @@ module _ (aim : Aim) (trusted : ℕ) where
       absurd (passed judge x other (ap (judge trusted) (down ∙ sym up) ∙ is))
 
   -- so many halvings leave one gap
-  one_gap : (judge : ℕ → ℕ → Judgement) (n a b x y : ℕ) → Gap judge n a b → Gap judge n x y → (a ≡ x) × (b ≡ y)
+  one_gap : (judge : ℕ → ℕ → StepJudgement) (n a b x y : ℕ) → Gap judge n a b → Gap judge n x y → (a ≡ x) × (b ≡ y)
   one_gap judge zero a b x y (low, up) (down, top) = (low ∙ sym down, up ∙ sym top)
   one_gap judge (suc n) a b x y (f, c, gap, halved) (g, d, other, half) =
       let same = one_gap judge n f c g d gap other in
@@ -82,7 +82,7 @@ module _ (aim : Aim) (trusted : ℕ) where
       one_half judge f c a b x y halved here
 
   -- the middle of a gap that was halved is judged
-  half_judged : (judge : ℕ → ℕ → Judgement) (f c a b : ℕ) → Halved judge f c a b → judge trusted (middle_of f c) ≢ Unknown
+  half_judged : (judge : ℕ → ℕ → StepJudgement) (f c a b : ℕ) → Halved judge f c a b → judge trusted (middle_of f c) ≢ Unknown
   half_judged judge f c a b (wide, inl (low, up, inl is)) =
       subst (λ h. judge trusted h ≢ Unknown) low (subst (λ i. i ≢ Unknown) (sym is) (judged_so Accepted refl))
   half_judged judge f c a b (wide, inl (low, up, inr is)) =
@@ -91,7 +91,7 @@ module _ (aim : Aim) (trusted : ℕ) where
       subst (λ h. judge trusted h ≢ Unknown) up (subst (λ i. i ≢ Unknown) (sym is) (judged_so Refused refl))
 
   -- and so is that of each gap before it
-  before_judged : (judge : ℕ → ℕ → Judgement) (n m f c : ℕ) → n < m → Gap judge m f c
+  before_judged : (judge : ℕ → ℕ → StepJudgement) (n m f c : ℕ) → n < m → Gap judge m f c
       → (g : ℕ) × (d : ℕ) × Gap judge n g d × (judge trusted (middle_of g d) ≢ Unknown)
   before_judged judge n zero f c less gap = absurd (omega (arith, less))
   before_judged judge n (suc m) f c less (g, d, gap, halved) =

@@ -12,8 +12,8 @@ use Rattle.rb_import_answers.specs.Headers.{Signed, signed_view}
 use Rattle.rb_import_answers.specs.Packets.{Search, search_view}
 use Rattle.rb_import_answers.specs.Pending.{Pending, commitments, unreceived, acknowledgements, page_view, Page as SequencePage}
 use Rattle.rb_import_answers.specs.Validators.{Page, page_view as set_view}
-use Rattle.rb_import_answers.specs.declared.client.ClientState.{ClientState}
-use Rattle.rb_import_answers.specs.declared.query.Query.{Query}
+use Rattle.rb_import_answers.specs.declared.client.TendermintClientState.{TendermintClientState}
+use Rattle.rb_import_answers.specs.declared.query.OtherQuery.{OtherQuery}
 use Rattle.rb_import_answers.specs.declared.status.NodeStatus.{NodeStatus}
 use Rattle.rb_want_requests.specs.declared.content.Content.{Content}
 use Rattle.rb_want_requests.specs.declared.content.Content.TheVariants as contents
@@ -22,7 +22,7 @@ use Rattle.rb_want_requests.specs.declared.content.Content.TheVariants as conten
 pub data FileContent : Type 0 where
   header : Signed → FileContent
   set_page : Option ℕ → Page → FileContent
-  client : ClientState → FileContent
+  client : TendermintClientState → FileContent
   other_client : FileContent
   states : Option ℕ → States → FileContent
   status : NodeStatus → FileContent
@@ -61,8 +61,8 @@ states_number name = number_after (codes "consensus_states-") name
 -- ---- contents
 
 -- of the answers that aren't read as such only that to `/status` says something
-abbrev pub other_content : Query → FileContent
-other_content (Query.Status (Some s)) = status s
+abbrev pub other_content : OtherQuery → FileContent
+other_content (OtherQuery.Status (Some s)) = status s
 other_content _ = nothing
 
 abbrev pub pending_content : List ℕ → Pending → FileContent

@@ -11,7 +11,7 @@ use Rattle.rb_want_requests.specs.declared.answered.PartKind.TheVariants as kind
 use Rattle.rb_want_requests.specs.declared.content.Content.{Content}
 use Rattle.rb_want_requests.specs.declared.content.Folder.{Folder}
 use Rattle.rb_want_requests.specs.declared.content.Folders.{Folders}
-use Rattle.rb_want_requests.specs.declared.reason.Why.{Why}
+use Rattle.rb_want_requests.specs.declared.reason.SearchReason.{SearchReason}
 use Rattle.rb_want_requests.specs.declared.request.Owner.{Owner}
 use Rattle.rb_want_requests.specs.declared.request.Owner.TheVariants as owners
 use Rattle.rb_want_requests.specs.declared.request.Query.{Query}
@@ -88,6 +88,6 @@ abbrev pub request_line : Folders → Request → List ℕ
 request_line folders r = codes "get " ++ (r.chain ++ (codes " " ++ target_of r.chain r.owner r.query (contents_of (folder_of folders r.owner))))
 
 -- a line for each request, and after them one for each reason
-abbrev pub wanted_text : Folders → List Request → List Why → List ℕ
+abbrev pub wanted_text : Folders → List Request → List SearchReason → List ℕ
 wanted_text folders requests reasons =
     flat_map (λ r. request_line folders r ++ 10 ∷ []) requests ++ flat_map (λ why. why_line why ++ 10 ∷ []) reasons

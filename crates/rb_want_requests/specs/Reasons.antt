@@ -10,7 +10,7 @@ use Rattle.rb_want_requests.specs.declared.reason.End.TheVariants as ends
 use Rattle.rb_want_requests.specs.declared.reason.Missing.{Missing}
 use Rattle.rb_want_requests.specs.declared.reason.Missing.TheVariants.{State, Records, LatestHeight}
 use Rattle.rb_want_requests.specs.declared.reason.Refused.{Refused}
-use Rattle.rb_want_requests.specs.declared.reason.Why.{Why}
+use Rattle.rb_want_requests.specs.declared.reason.SearchReason.{SearchReason}
 
 -- the greatest power of so much in all that isn't enough for a trust level
 abbrev pub needed_of : ℕ → TrustLevel → ℕ
@@ -29,17 +29,17 @@ abbrev pub refused_text : Refused → List ℕ
 refused_text r = decimal r.height ++ verdict_text r.verdict r.trusted r.trust
 
 -- the height that a reason has as refused
-abbrev pub refused_of : ℕ → Why → Refused
+abbrev pub refused_of : ℕ → SearchReason → Refused
 refused_of height w = record { height = height; trusted = w.trusted; verdict = w.verdict; trust = w.trust }
 
 -- between which heights is searched
-abbrev pub between_text : Why → Option ℕ → Option ℕ → List ℕ
+abbrev pub between_text : SearchReason → Option ℕ → Option ℕ → List ℕ
 between_text w None None = codes "nothing judged yet"
 between_text w (Some accepted) None = decimal accepted ++ codes " accepted"
 between_text w None (Some refused) = refused_text (refused_of refused w)
 between_text w (Some accepted) (Some refused) = decimal accepted ++ (codes " accepted, " ++ refused_text (refused_of refused w))
 
-abbrev pub why_line : Why → List ℕ
+abbrev pub why_line : SearchReason → List ℕ
 why_line w = codes "why " ++ (w.client ++ (codes " from " ++ (decimal w.trusted ++ (codes ": " ++ between_text w w.accepted w.refused))))
 
 abbrev pub missing_text : Missing → List ℕ
@@ -48,7 +48,7 @@ missing_text Records = codes "all of its consensus states"
 missing_text LatestHeight = codes "the latest height of the chain that it tracks"
 
 -- why nothing goes on
-abbrev pub stuck_text : Why → Option ℕ → List ℕ
+abbrev pub stuck_text : SearchReason → Option ℕ → List ℕ
 stuck_text w (Some refused) = refused_text (refused_of refused w)
 stuck_text w None = codes "no height is above it"
 

@@ -2,18 +2,18 @@
 use Rattle.std.specs.Prelude.{◌≡◌, ◌≢◌, ◌+◌, ◌-◌, ◌*◌, ◌^◌, ◌<◌, ◌≤◌, ℕ, List, All, Contains, length}
 use Rattle.std.specs.List.{AllPairs}
 use Rattle.rb_want_requests.specs.Search.{IsQuestion, Judgements}
-use Rattle.rb_want_requests.specs.declared.judge.Judgement.{Judgement}
-use Rattle.rb_want_requests.specs.declared.judge.Judgement.TheVariants.{Unknown}
+use Rattle.rb_want_requests.specs.declared.judge.StepJudgement.{StepJudgement}
+use Rattle.rb_want_requests.specs.declared.judge.StepJudgement.TheVariants.{Unknown}
 use Rattle.rb_want_requests.specs.declared.searching.Aim.{Aim}
 use Rattle.rb_want_requests.specs.declared.searching.Question.{Question}
 
 -- how each step from a trusted height to another is judged in a round, and which one the search asks about
 pub record Round : Type 0 where
-  pub judge : ℕ → ℕ → Judgement
+  pub judge : ℕ → ℕ → StepJudgement
   pub question : Question
 
 -- that a step is judged so
-abbrev pub judged_by : (ℕ → ℕ → Judgement) → Judgements
+abbrev pub judged_by : (ℕ → ℕ → StepJudgement) → Judgements
 judged_by judge trusted height judgement = judge trusted height ≡ judgement
 
 -- a later round: what was judged stays so, and the step that was asked about is judged

@@ -1,19 +1,19 @@
 -- What a search for accepted steps comes to, by how steps are judged.
 use Rattle.std.specs.Prelude.{◌≡◌, ◌≢◌, ◌⊎◌, ◌+◌, ◌-◌, ◌/◌, ◌^◌, ◌<◌, ◌≤◌, ℕ, zero, suc, List, [], ◌∷◌, Option, Some, None, IfSome, unwrap_or}
-use Rattle.rb_want_requests.specs.declared.judge.Judgement.{Judgement}
-use Rattle.rb_want_requests.specs.declared.judge.Judgement.TheVariants.{Accepted, Gone, Never, Refused, Unknown}
+use Rattle.rb_want_requests.specs.declared.judge.StepJudgement.{StepJudgement}
+use Rattle.rb_want_requests.specs.declared.judge.StepJudgement.TheVariants.{Accepted, Gone, Never, Refused, Unknown}
 use Rattle.rb_want_requests.specs.declared.searching.Aim.{Aim}
 use Rattle.rb_want_requests.specs.declared.searching.Question.{Question}
-use Rattle.rb_want_requests.specs.declared.searching.Finding.{Finding}
-use Rattle.rb_want_requests.specs.declared.searching.Finding.TheVariants.{Asks, Reached, Stuck}
+use Rattle.rb_want_requests.specs.declared.searching.SearchOutcome.{SearchOutcome}
+use Rattle.rb_want_requests.specs.declared.searching.SearchOutcome.TheVariants.{Asks, Reached, Stuck}
 
 -- how the step from a trusted height to another is judged
 abbrev pub Judgements : Type 1
-Judgements = ℕ → ℕ → Judgement → Type 0
+Judgements = ℕ → ℕ → StepJudgement → Type 0
 
 -- the step is judged, and not as accepted
 abbrev pub IsNotAccepted : Judgements → ℕ → ℕ → Type 0
-IsNotAccepted judges trusted height = (j : Judgement) × judges trusted height j × (j ≢ Accepted) × (j ≢ Unknown)
+IsNotAccepted judges trusted height = (j : StepJudgement) × judges trusted height j × (j ≢ Accepted) × (j ≢ Unknown)
 
 -- the step goes up, and no higher than the aim
 abbrev pub IsWithin : Aim → ℕ → ℕ → Type 0
@@ -96,7 +96,7 @@ IsDeadEnd judges trusted height =
 
 -- A search ends where farthest steps lead: at a height that suffices; or at one below what serves, from which a step is asked for that can't be
 -- judged yet, or no step goes on.
-abbrev pub IsFinding : Judgements → ℕ → Aim → Finding → Type 0
+abbrev pub IsFinding : Judgements → ℕ → Aim → SearchOutcome → Type 0
 IsFinding judges first aim (Reached height) = IsReached judges aim first height × Suffices aim height
 IsFinding judges first aim (Asks q) = IsReached judges aim first q.trusted × (q.trusted < aim.least) × IsQuestion judges aim q
 IsFinding judges first aim (Stuck trusted height) =

@@ -5,8 +5,8 @@ ghost use Rattle.rb_import_answers.specs.Validators.{page_view as set_view};
 ghost use Rattle.rb_want_requests.specs.Contents.{content_in, content_view, number_after, pending_content, set_page, validators_number};
 
 use rb_import_answers::{
-    ClientState, ConsensusPage, NodeAnswer, NodeStatus, PacketPage, Pending, Query, SequencePage,
-    SignedHeader, ValidatorsPage, read_answer,
+    ConsensusPage, NodeAnswer, NodeStatus, OtherQuery, PacketPage, Pending, SequencePage,
+    SignedHeader, TendermintClientState, ValidatorsPage, read_answer,
 };
 use rb_import_json::{AnswerError, FieldErrorName, number_of};
 use std::alloc::{AllocError, Global};
@@ -22,7 +22,7 @@ pub enum Content {
         page: ValidatorsPage,
     },
     /// The state of a client.
-    ClientState(ClientState),
+    ClientState(TendermintClientState),
     /// The state of a client that is frozen, or isn't Tendermint's.
     OtherClient,
     /// A page of a client's consensus states, with its number by the file's name.
@@ -90,7 +90,7 @@ pub fn content_of(
         }
         Ok(NodeAnswer::Transactions(page)) => Ok(Content::Search(page)),
         Ok(NodeAnswer::Pending(pending)) => Ok(pending_in(name, pending)),
-        Ok(NodeAnswer::Other(Query::Status(Some(status)))) => Ok(Content::Status(status)),
+        Ok(NodeAnswer::Other(OtherQuery::Status(Some(status)))) => Ok(Content::Status(status)),
         Ok(NodeAnswer::Verdicts(_) | NodeAnswer::Other(_)) => Ok(Content::Other),
         Err(AnswerError::NoMemory) => Err(AllocError),
         Err(AnswerError::Invalid(flaw)) => Ok(match flaw.name {

@@ -6,7 +6,7 @@ use std::alloc::AllocError;
 
 /// What answers say of a step from the record at a trusted height to the header at another.
 #[derive(Clone, Copy, PartialEq, Eq)]
-pub enum Judgement {
+pub enum StepJudgement {
     /// The client accepts it.
     Accepted,
     /// The client refuses it.
@@ -21,12 +21,12 @@ pub enum Judgement {
 
 /// Whoever judges steps by the answers that are there.
 pub trait Judge {
-    ghost use Rattle.rb_want_requests.specs.declared.judge.Judgement.{Judgement};
+    ghost use Rattle.rb_want_requests.specs.declared.judge.StepJudgement.{StepJudgement};
 
     // That the step from a trusted height to another is judged so.
-    ghost judges: { Self → ℕ → ℕ → Judgement → Type 0 };
+    ghost judges: { Self → ℕ → ℕ → StepJudgement → Type 0 };
 
     /// What the answers say of a step. `AllocError` comes where a growth is refused.
-    fn judge(&self, trusted: Height, height: Height) -> Result<Judgement, AllocError>
+    fn judge(&self, trusted: Height, height: Height) -> Result<StepJudgement, AllocError>
         ensures { IfOk result (judges self.now trusted height) };
 }

@@ -11,7 +11,7 @@ use std::fmt;
 /// The heights between which a client's search asks: the greatest accepted one from a trusted height, and the
 /// least refused one, with the step rule's answer where it was judged.
 #[derive(Clone, Copy)]
-pub struct Why {
+pub struct SearchReason {
     pub client: ClientId,
     pub trusted: Height,
     pub accepted: Option<Height>,
@@ -20,7 +20,7 @@ pub struct Why {
     pub trust: TrustLevel,
 }
 
-impl fmt::Display for Why {
+impl fmt::Display for SearchReason {
     ghost use Rattle.std.specs.Prelude.{Some};
     ghost use Rattle.rb_want_requests.specs.Reasons.{why_line};
 
@@ -59,7 +59,7 @@ struct Refused {
 }
 
 /// The refused height of a reason.
-fn refused_of(height: Height, why: &Why) -> Refused
+fn refused_of(height: Height, why: &SearchReason) -> Refused
     ensures { result ≡ refused_of height why.now }
 {
     Refused {
@@ -167,7 +167,7 @@ pub enum End {
         latest: Height,
     },
     /// Nothing goes on from a trusted height.
-    Stuck(Why),
+    Stuck(SearchReason),
 }
 
 impl fmt::Display for End {

@@ -5,7 +5,7 @@ ghost use Rattle.rb_want_requests.specs.Hop.{IsHop, IsRefusedStep};
 ghost use Rattle.rb_want_requests.specs.Search.{IsFinding};
 
 use crate::gap::Gap;
-use crate::judge::{Judge, Judgement};
+use crate::judge::{Judge, StepJudgement};
 use rb_base::Height;
 use std::alloc::AllocError;
 
@@ -28,7 +28,7 @@ pub struct Question {
 
 /// What a search comes to.
 #[derive(Clone, Copy, PartialEq, Eq)]
-pub enum Finding {
+pub enum SearchOutcome {
     /// A step has to be judged before the search goes on.
     Asks(Question),
     /// Accepted steps lead to this height, which the aim wants.
@@ -49,18 +49,18 @@ enum Hop {
 /// What the search from a trusted height comes to. Answers that it takes to judge a step are asked for one step at a
 /// time: once they are there, the search goes on from there.
 #[tactic(auto, using(crate::proofs::Leading::start, crate::proofs::Leading::further))]
-pub fn search<J: Judge>(judge: &J, first: Height, aim: &Aim) -> Result<Finding, AllocError>
+pub fn search<J: Judge>(judge: &J, first: Height, aim: &Aim) -> Result<SearchOutcome, AllocError>
     ensures { IfOk result (IsFinding (J.judges judge.now) first aim.now) }
 {
     let mut trusted = first;
     'hops: while trusted < aim.least && trusted < aim.most {
         match hop_from(judge, trusted, aim)? {
             Hop::To(height) => trusted = height,
-            Hop::Asks(question) => return Ok(Finding::Asks(question)),
-            Hop::Stuck(height) => return Ok(Finding::Stuck { trusted, height }),
+            Hop::Asks(question) => return Ok(SearchOutcome::Asks(question)),
+            Hop::Stuck(height) => return Ok(SearchOutcome::Stuck { trusted, height }),
         }
     }
-    Ok(Finding::Reached(trusted))
+    Ok(SearchOutcome::Reached(trusted))
 }
 
 /// The hop from a trusted height: to the greatest height that the aim takes, if that is accepted, else to the greatest that
@@ -70,15 +70,15 @@ fn hop_from<J: Judge>(judge: &J, trusted: Height, aim: &Aim) -> Result<Hop, Allo
     ensures { IfOk result (IsHop (J.judges judge.now) aim.now trusted) }
 {
     match judge.judge(trusted, aim.most)? {
-        Judgement::Accepted => Ok(Hop::To(aim.most)),
-        Judgement::Unknown => Ok(Hop::Asks(Question {
+        StepJudgement::Accepted => Ok(Hop::To(aim.most)),
+        StepJudgement::Unknown => Ok(Hop::Asks(Question {
             trusted,
             height: aim.most,
             accepted: None,
             refused: None,
         })),
-        Judgement::Never => Ok(Hop::Stuck(aim.most)),
-        Judgement::Refused | Judgement::Gone => halve(judge, trusted, aim),
+        StepJudgement::Never => Ok(Hop::Stuck(aim.most)),
+        StepJudgement::Refused | StepJudgement::Gone => halve(judge, trusted, aim),
     }
 }
 
@@ -95,15 +95,15 @@ fn halve<J: Judge>(judge: &J, trusted: Height, aim: &Aim) -> Result<Hop, AllocEr
     let mut accepted = None;
     'halvings: while let Some(height) = gap.middle() {
         match judge.judge(trusted, height)? {
-            Judgement::Accepted if height >= aim.least => return Ok(Hop::To(height)),
-            Judgement::Accepted => {
+            StepJudgement::Accepted if height >= aim.least => return Ok(Hop::To(height)),
+            StepJudgement::Accepted => {
                 accepted = Some(height);
                 gap.floor = height;
             }
-            Judgement::Gone => gap.floor = height,
-            Judgement::Refused => gap.ceiling = height,
-            Judgement::Never => return Ok(Hop::Stuck(height)),
-            Judgement::Unknown => {
+            StepJudgement::Gone => gap.floor = height,
+            StepJudgement::Refused => gap.ceiling = height,
+            StepJudgement::Never => return Ok(Hop::Stuck(height)),
+            StepJudgement::Unknown => {
                 return Ok(Hop::Asks(Question {
                     trusted,
                     height,

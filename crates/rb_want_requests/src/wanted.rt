@@ -6,7 +6,7 @@ ghost use Rattle.rb_want_requests.specs.Requests.{AreDistinct, AreFew, is_new, i
 
 use crate::content::Folders;
 use crate::lines::RequestLine;
-use crate::reason::{End, PathEnd, Why};
+use crate::reason::{End, PathEnd, SearchReason};
 use crate::request::Request;
 use std::alloc::{AllocError, Global};
 use std::fmt;
@@ -19,10 +19,10 @@ pub const MOST_REQUESTS: usize = 30;
 /// by client. Then the clients and paths for which no more is asked though they aren't where they should be, of
 /// a path each chain once.
 #[derive(Drop)]
-pub struct Wanted<'a> {
+pub struct NextRequests<'a> {
     pub folders: &'a Folders,
     pub requests: Vec<Request>,
-    pub reasons: Vec<Why>,
+    pub reasons: Vec<SearchReason>,
     pub ends: Vec<End>,
     pub path_ends: Vec<PathEnd>,
     ghost few: { AreFew requests.items },
@@ -32,7 +32,7 @@ pub struct Wanted<'a> {
 }
 
 /// Shown as a line for each request, and after them a line for each reason.
-impl fmt::Display for Wanted<'_> {
+impl fmt::Display for NextRequests<'_> {
     ghost use Rattle.std.specs.Prelude.{Some};
     ghost use Rattle.rb_want_requests.specs.Lines.{wanted_text};
 
@@ -50,16 +50,16 @@ impl fmt::Display for Wanted<'_> {
     }
 }
 
-impl<'a> Wanted<'a> {
+impl<'a> NextRequests<'a> {
     /// No request, over these folders.
-    pub fn nothing(alloc: Global, folders: &'a Folders) -> Wanted<'a>
+    pub fn nothing(alloc: Global, folders: &'a Folders) -> NextRequests<'a>
         ensures folders { result.folders.now ≡ folders.entry.now }
         ensures requests { result.requests.items ≡ [] }
         ensures reasons { result.reasons.items ≡ [] }
         ensures ends { result.ends.items ≡ [] }
         ensures path_ends { result.path_ends.items ≡ [] }
     {
-        Wanted {
+        NextRequests {
             folders,
             requests: Vec::new(alloc),
             reasons: Vec::new(alloc),

@@ -3,7 +3,7 @@
 use crate::words::Words;
 use anyhow::bail;
 use rb_packets::{
-    Action, Claim, Packet, PacketMessage, Proven, RevisionHeight, judge, key_of,
+    Action, ChannelPacket, Claim, PacketMessage, Proven, RevisionHeight, judge, key_of,
     packet_message_text,
 };
 use std::alloc::Global;
@@ -18,7 +18,7 @@ pub fn answer(alloc: Global, claim: &str, words: &mut Words) -> anyhow::Result<S
     let data = words.bytes(alloc)?;
     let timeout_height = height(words)?;
     let timeout_time = words.number()?;
-    let packet = Packet {
+    let packet = ChannelPacket {
         sequence,
         source_port,
         source_channel,

@@ -1,6 +1,6 @@
 use crate::same::assert_same;
 use rb_base::{ChainId, ClientId, Height};
-use rb_want_requests::{Folder, Folders, Owner, Query, Request, Wanted};
+use rb_want_requests::{Folder, Folders, NextRequests, Owner, Query, Request};
 use std::alloc::{AllocError, Global};
 use std::test::Fail;
 
@@ -46,7 +46,7 @@ fn states_of(chain: &str, page: u64) -> Option<Request> {
 }
 
 /// The numbers of requests, after many of the node and of the gateway of a chain.
-fn counts_after(alloc: Global, wanted: &mut Wanted<'_>) -> Result<String, Fail> {
+fn counts_after(alloc: Global, wanted: &mut NextRequests<'_>) -> Result<String, Fail> {
     for height in 1..=TIMES {
         wanted.ask(alloc, &header_of("hub-4", height).ok_or("header")?)?;
     }
@@ -63,7 +63,7 @@ fn counts_after(alloc: Global, wanted: &mut Wanted<'_>) -> Result<String, Fail> 
 #[test]
 fn asks_thirty_times_of_each_address(rt: HostRuntime) -> Result<(), Fail> {
     let folders = make_folders(rt.alloc())?;
-    let mut wanted = Wanted::nothing(rt.alloc(), &folders);
+    let mut wanted = NextRequests::nothing(rt.alloc(), &folders);
     let counts = counts_after(rt.alloc(), &mut wanted)?;
     assert_same(&rt, "requests", counts.as_str(), "30 60 61");
     Ok(())

@@ -1,5 +1,5 @@
 use rb_base::Height;
-use rb_want_requests::{Aim, Finding, Judge, Judgement, search};
+use rb_want_requests::{Aim, Judge, SearchOutcome, StepJudgement, search};
 use std::alloc::AllocError;
 use std::process::Abort;
 use std::test::Fail;
@@ -26,19 +26,19 @@ struct Toy {
     steps: Vec<(u64, u64)>,
 }
 
-fn judged(rule: Rule, trusted: u64, height: u64) -> Judgement {
+fn judged(rule: Rule, trusted: u64, height: u64) -> StepJudgement {
     let is_accepted = match rule {
         Rule::All => true,
         Rule::Within(most) => height <= trusted.saturating_add(most),
         Rule::NotOver(change) => trusted >= change || height <= change,
-        Rule::GivenFrom(lowest, _) if height < lowest => return Judgement::Gone,
+        Rule::GivenFrom(lowest, _) if height < lowest => return StepJudgement::Gone,
         Rule::GivenFrom(_, most) => height <= trusted.saturating_add(most),
-        Rule::Nothing => return Judgement::Never,
+        Rule::Nothing => return StepJudgement::Never,
     };
     if is_accepted {
-        Judgement::Accepted
+        StepJudgement::Accepted
     } else {
-        Judgement::Refused
+        StepJudgement::Refused
     }
 }
 
@@ -47,14 +47,14 @@ impl Judge for Toy {
 
     ghost judges = { λ _ _ _ _. ⊤ };
 
-    fn judge(&self, trusted: Height, height: Height) -> Result<Judgement, AllocError> {
+    fn judge(&self, trusted: Height, height: Height) -> Result<StepJudgement, AllocError> {
         let (trusted, height) = (trusted.get(), height.get());
         for (from, to) in &self.steps {
             if *from == trusted && *to == height {
                 return Ok(judged(self.rule, trusted, height));
             }
         }
-        Ok(Judgement::Unknown)
+        Ok(StepJudgement::Unknown)
     }
 }
 
@@ -116,13 +116,13 @@ fn height(number: u64) -> Result<Height, Fail> {
 /// The toy with one answer more: where the search ends, and whether it does.
 fn step(toy: &mut Toy, first: Height, aim: &Aim) -> Result<Option<Option<u64>>, AllocError> {
     match search(toy, first, aim)? {
-        Finding::Asks(question) => {
+        SearchOutcome::Asks(question) => {
             let asked = (question.trusted.get(), question.height.get());
             toy.steps.push(asked)?;
             Ok(None)
         }
-        Finding::Reached(reached) => Ok(Some(Some(reached.get()))),
-        Finding::Stuck { .. } => Ok(Some(None)),
+        SearchOutcome::Reached(reached) => Ok(Some(Some(reached.get()))),
+        SearchOutcome::Stuck { .. } => Ok(Some(None)),
     }
 }
 

@@ -1,7 +1,7 @@
 use crate::merkle::to_hex;
 use crate::same::assert_same;
 use rb_base::{ChainId, Height, Moment};
-use rb_import_answers::{BlockId, Header, HeaderBytes, header_hash};
+use rb_import_answers::{BlockHeader, BlockId, HeaderBytes, header_hash};
 use sha2::{Digest, Sha256};
 use std::alloc::{AllocError, Global};
 use std::process::Abort;
@@ -20,8 +20,8 @@ fn bytes(slice: &[u8]) -> HeaderBytes {
 }
 
 /// The header of CometBFT's own test of `Header.Hash`, whose hashes are those of the names of their fields.
-fn named() -> Header {
-    Header {
+fn named() -> BlockHeader {
+    BlockHeader {
         block_version: 1,
         app_version: 2,
         chain: ChainId::new("chainId").unwrap(),
@@ -45,7 +45,7 @@ fn named() -> Header {
 }
 
 /// The first header of a chain, which has no last block.
-fn first() -> Header {
+fn first() -> BlockHeader {
     let mut header = named();
     header.block_version = 11;
     header.app_version = 0;
@@ -65,7 +65,7 @@ fn first() -> Header {
 fn check_hash(
     rt: &impl Abort,
     alloc: Global,
-    header: &Header,
+    header: &BlockHeader,
     wanted: &str,
 ) -> Result<(), AllocError> {
     let found = header_hash(alloc, header)?;

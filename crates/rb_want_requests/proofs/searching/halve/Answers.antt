@@ -1,5 +1,5 @@
 use Rattle.std.proofs.Common.{arith, inl, inr, refl, rules, subst}
-use Rattle.rb_want_requests.specs.declared.judge.Judgement.TheVariants.{Refused}
+use Rattle.rb_want_requests.specs.declared.judge.StepJudgement.TheVariants.{Refused}
 use Rattle.rb_want_requests.proofs.Halving.{lower, upper}
 use Rattle.rb_want_requests.proofs.searching.halve.Goals as goal
 

@@ -1,6 +1,6 @@
 use Rattle.std.proofs.Common.{◌≤◌, ◌<◌, ◌-◌}
 use Rattle.std.specs.Prelude.{IfSome, unwrap_or}
-use Rattle.rb_want_requests.specs.declared.judge.Judgement.TheVariants.{Accepted}
+use Rattle.rb_want_requests.specs.declared.judge.StepJudgement.TheVariants.{Accepted}
 use Rattle.rb_want_requests.specs.Search.{IsFloor, IsWithin}
 use Rattle.rb_want_requests.specs.Hop.{IsRefusedStep}
 use Rattle.rb_want_requests.proofs.Halving.{IsGap}
