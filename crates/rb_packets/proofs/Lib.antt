@@ -1,4 +1,3 @@
 pub mod JsonText
 pub mod ProvenTexts
 pub mod Refusals
-pub mod Texts

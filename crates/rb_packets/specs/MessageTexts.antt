@@ -1,9 +1,10 @@
 -- The text of packet messages (ICS 4; ibc-go, `MsgRecvPacket`, `MsgAcknowledgement` and `MsgTimeout`; their JSON by protojson).
-use Rattle.std.specs.Prelude.{ℕ, List, ◌++◌, codes}
+use Rattle.std.specs.Prelude.{ℕ, List, [], ◌∷◌, codes}
+use Rattle.rb_script_text.specs.Json.{Json, json_text, object, string, ◌is◌}
 use Rattle.rb_packets.specs.Packets.{ChannelPacket, packet_view}
 use Rattle.rb_import_answers.specs.declared.packets.RevisionHeight.{RevisionHeight}
-use Rattle.rb_packets.specs.PacketTexts.{packet_member}
-use Rattle.rb_packets.specs.Values.{bytes_member, height_member, number_member, text_member}
+use Rattle.rb_packets.specs.PacketTexts.{packet_json}
+use Rattle.rb_packets.specs.Values.{bytes_json, height_json, number_json}
 use Rattle.rb_packets.specs.declared.message.Action.{Action as CodeAction}
 use Rattle.rb_packets.specs.declared.message.Action.TheVariants as actions
 use Rattle.rb_packets.specs.declared.message.PacketMessage.{PacketMessage}
@@ -35,24 +36,26 @@ message_view m = record {
   signer = m.signer.now;
 }
 
-abbrev pub type_text : Action → List ℕ
-type_text receive = codes "{\"@type\": \"/ibc.core.channel.v1.MsgRecvPacket\""
-type_text (acknowledge bytes) = codes "{\"@type\": \"/ibc.core.channel.v1.MsgAcknowledgement\""
-type_text (time_out next) = codes "{\"@type\": \"/ibc.core.channel.v1.MsgTimeout\""
+abbrev pub type_of : Action → List ℕ
+type_of receive = codes "/ibc.core.channel.v1.MsgRecvPacket"
+type_of (acknowledge bytes) = codes "/ibc.core.channel.v1.MsgAcknowledgement"
+type_of (time_out next) = codes "/ibc.core.channel.v1.MsgTimeout"
 
-unfoldable pub proof_member : List ℕ → Message → List ℕ
-proof_member name m = bytes_member name m.proof ++ height_member (codes "proof_height") m.proof_height
+-- the proof under its name, its height, and the account that signs
+unfoldable pub proof_members : List ℕ → Message → List (List ℕ × Json)
+proof_members name m = (name is bytes_json m.proof) ∷ (codes "proof_height" is height_json m.proof_height) ∷ (codes "signer" is string m.signer) ∷ []
 
-abbrev pub of_action : Action → Message → List ℕ
-of_action receive m = proof_member (codes "proof_commitment") m
-of_action (acknowledge bytes) m = bytes_member (codes "acknowledgement") bytes ++ proof_member (codes "proof_acked") m
-of_action (time_out next) m = number_member (codes "next_sequence_recv") next ++ proof_member (codes "proof_unreceived") m
+-- what stands behind the packet: what messages of a kind alone have, and the proof
+abbrev pub of_action : Action → Message → List (List ℕ × Json)
+of_action receive m = proof_members (codes "proof_commitment") m
+of_action (acknowledge bytes) m = (codes "acknowledgement" is bytes_json bytes) ∷ proof_members (codes "proof_acked") m
+of_action (time_out next) m = (codes "next_sequence_recv" is number_json next) ∷ proof_members (codes "proof_unreceived") m
 
-unfoldable pub action_text : Message → List ℕ
-action_text m = of_action m.action m
+unfoldable pub action_members : Message → List (List ℕ × Json)
+action_members m = of_action m.action m
 
-unfoldable pub signer_text : List ℕ → List ℕ
-signer_text signer = text_member (codes "signer") signer ++ codes "}"
+unfoldable pub message_json : Message → Json
+message_json m = object ((codes "@type" is string (type_of m.action)) ∷ (codes "packet" is packet_json m.packet) ∷ action_members m)
 
-unfoldable pub packet_message_text : Message → List ℕ
-packet_message_text m = type_text m.action ++ packet_member m.packet ++ action_text m ++ signer_text m.signer
+abbrev pub packet_message_text : Message → List ℕ
+packet_message_text m = json_text (message_json m)
