@@ -3,9 +3,9 @@ pub mod Batches
 pub mod Files
 pub mod Least
 pub mod Lines
+pub mod Members
 pub mod Memory
 pub mod Missing
 pub mod Parts
 pub mod Shown
-pub mod Texts
 pub mod Zipped

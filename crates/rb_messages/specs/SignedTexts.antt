@@ -1,10 +1,11 @@
--- The text of a signed header, as protojson writes it; none of its values has a character that JSON escapes.
-use Rattle.std.specs.Prelude.{ℕ, List, ◌++◌, codes, nat_lt, if◌then◌else◌, Bool, true, false, Option, Some, None}
-use Rattle.std.specs.List.{enumerate_from, flat_map, list_any}
+-- A signed header as JSON, as protojson writes it; none of its values has a character that JSON escapes.
+use Rattle.std.specs.Prelude.{ℕ, List, [], ◌∷◌, codes, map, if◌then◌else◌, Bool, true, false, Option, Some, None}
+use Rattle.std.specs.List.{list_any}
 use Rattle.std.specs.Fmt.{decimal}
 use Rattle.std.specs.Str.{bytes_eq}
 use Rattle.base64.specs.Engines.{standard}
 use Rattle.base64.specs.GeneralPurpose.{encode_of}
+use Rattle.rb_script_text.specs.Json.{Json, array, number, object, string, ◌is◌}
 use Rattle.rb_script_text.specs.Moments.{moment_text}
 use Rattle.rb_import_answers.specs.HeaderHash.{BlockId, BlockHeader}
 use Rattle.rb_import_answers.specs.declared.commit.Cast.{Cast}
@@ -13,94 +14,56 @@ use Rattle.rb_import_answers.specs.declared.commit.CommitVote.TheVariants as kin
 use Rattle.rb_import_answers.specs.Headers.{Signed}
 use Rattle.rb_step.specs.Sent.{SentVotes}
 
--- bytes: base64, in quotes
-unfoldable pub bytes_text : List ℕ → List ℕ
-bytes_text bytes = codes "\"" ++ encode_of standard bytes ++ codes "\""
+-- a number of 64 bits: a string
+abbrev pub quoted : ℕ → Json
+quoted n = string (decimal n)
 
--- the name of a member that stands behind another
-abbrev pub name_text : List ℕ → List ℕ
-name_text name = codes ", \"" ++ name ++ codes "\": "
-
--- a member of bytes
-unfoldable pub bytes_member : List ℕ → List ℕ → List ℕ
-bytes_member name bytes = name_text name ++ bytes_text bytes
+-- bytes: base64
+abbrev pub bytes_json : List ℕ → Json
+bytes_json bytes = string (encode_of standard bytes)
 
 -- a time: RFC 3339, in UTC
-unfoldable pub time_text : ℕ → List ℕ
-time_text time = codes "\"" ++ moment_text time ++ codes "\""
-
--- ---- the identifier of a block (CometBFT, `BlockID`)
-
-abbrev pub id_head : List ℕ → List ℕ
-id_head hash = codes "{\"hash\": " ++ bytes_text hash
-
-abbrev pub parts_head : ℕ → List ℕ
-parts_head total = codes ", \"part_set_header\": {\"total\": " ++ decimal total ++ codes ", \"hash\": "
-
-abbrev pub parts_tail : List ℕ → List ℕ
-parts_tail hash = bytes_text hash ++ codes "}}"
-
-unfoldable pub id_text : BlockId → List ℕ
-id_text b = id_head b.hash ++ parts_head b.parts_total ++ parts_tail b.parts_hash
+abbrev pub time_json : ℕ → Json
+time_json time = string (moment_text time)
 
 -- ---- a header (CometBFT, `Header`)
 
-abbrev pub block_version_text : ℕ → List ℕ
-block_version_text version = codes "{\"version\": {\"block\": \"" ++ decimal version
+-- how many parts a block has, and their hash (CometBFT, `PartSetHeader`)
+unfoldable pub parts_json : ℕ → List ℕ → Json
+parts_json total hash = object (codes "total" is number total ∷ codes "hash" is bytes_json hash ∷ [])
 
-abbrev pub app_version_text : ℕ → List ℕ
-app_version_text version = codes "\", \"app\": \"" ++ decimal version ++ codes "\"}"
+-- the identifier of a block (CometBFT, `BlockID`)
+unfoldable pub id_json : BlockId → Json
+id_json b = object (codes "hash" is bytes_json b.hash ∷ codes "part_set_header" is parts_json b.parts_total b.parts_hash ∷ [])
 
-abbrev pub versions_text : BlockHeader → List ℕ
-versions_text f = block_version_text f.block_version ++ app_version_text f.app_version
+unfoldable pub versions_json : BlockHeader → Json
+versions_json f = object (codes "block" is quoted f.block_version ∷ codes "app" is quoted f.app_version ∷ [])
 
-abbrev pub chain_text : List ℕ → List ℕ
-chain_text chain = codes ", \"chain_id\": \"" ++ chain
-
-abbrev pub height_text : ℕ → List ℕ
-height_text height = codes "\", \"height\": \"" ++ decimal height ++ codes "\", \"time\": "
-
-abbrev pub subject_text : BlockHeader → List ℕ
-subject_text f = chain_text f.chain ++ height_text f.height
-
-unfoldable pub head_text : BlockHeader → List ℕ
-head_text f = versions_text f ++ subject_text f ++ time_text f.time
-
-unfoldable pub last_block_text : BlockHeader → List ℕ
-last_block_text f = name_text (codes "last_block_id") ++ id_text f.last_block
-
-unfoldable pub block_hashes : BlockHeader → List ℕ
-block_hashes f =
-    bytes_member (codes "last_commit_hash") f.last_commit_hash
-    ++ bytes_member (codes "data_hash") f.data_hash
-    ++ bytes_member (codes "validators_hash") f.validators_hash
-
-abbrev pub next_hash : BlockHeader → List ℕ
-next_hash f = bytes_member (codes "next_validators_hash") f.next_validators_hash
-
-unfoldable pub consensus_text : BlockHeader → List ℕ
-consensus_text f = bytes_member (codes "consensus_hash") f.consensus_hash
-
-unfoldable pub app_text : BlockHeader → List ℕ
-app_text f = bytes_member (codes "app_hash") f.app_hash
-
-unfoldable pub state_hashes : BlockHeader → List ℕ
-state_hashes f = next_hash f ++ consensus_text f ++ app_text f
-
-unfoldable pub last_hashes : BlockHeader → List ℕ
+-- the members behind the versions, from the last ones on
+unfoldable pub last_hashes : BlockHeader → List (List ℕ × Json)
 last_hashes f =
-    bytes_member (codes "last_results_hash") f.last_results_hash
-    ++ bytes_member (codes "evidence_hash") f.evidence_hash
-    ++ bytes_member (codes "proposer_address") f.proposer_address
+    codes "last_results_hash" is bytes_json f.last_results_hash ∷ codes "evidence_hash" is bytes_json f.evidence_hash
+    ∷ codes "proposer_address" is bytes_json f.proposer_address ∷ []
 
-unfoldable pub hashes_text : BlockHeader → List ℕ
-hashes_text f = block_hashes f ++ state_hashes f ++ last_hashes f
+unfoldable pub state_hashes : BlockHeader → List (List ℕ × Json)
+state_hashes f = codes "consensus_hash" is bytes_json f.consensus_hash ∷ codes "app_hash" is bytes_json f.app_hash ∷ last_hashes f
 
-abbrev pub header_tail : BlockHeader → List ℕ
-header_tail f = hashes_text f ++ codes "}"
+unfoldable pub set_hashes : BlockHeader → List (List ℕ × Json)
+set_hashes f =
+    codes "validators_hash" is bytes_json f.validators_hash ∷ codes "next_validators_hash" is bytes_json f.next_validators_hash ∷ state_hashes f
 
-unfoldable pub header_text : BlockHeader → List ℕ
-header_text f = head_text f ++ last_block_text f ++ header_tail f
+unfoldable pub hashes : BlockHeader → List (List ℕ × Json)
+hashes f = codes "last_commit_hash" is bytes_json f.last_commit_hash ∷ codes "data_hash" is bytes_json f.data_hash ∷ set_hashes f
+
+unfoldable pub last_block_members : BlockHeader → List (List ℕ × Json)
+last_block_members f = codes "last_block_id" is id_json f.last_block ∷ hashes f
+
+unfoldable pub header_members : BlockHeader → List (List ℕ × Json)
+header_members f =
+    codes "chain_id" is string f.chain ∷ codes "height" is quoted f.height ∷ codes "time" is time_json f.time ∷ last_block_members f
+
+unfoldable pub header_json : BlockHeader → Json
+header_json f = object (codes "version" is versions_json f ∷ header_members f)
 
 -- ---- a commit (CometBFT, `Commit`), with the votes that an update carries
 
@@ -114,71 +77,43 @@ is_carried (Some votes) kinds.Absent = false
 is_carried (Some votes) (kinds.Commit c) = is_sender votes c.address
 is_carried (Some votes) (kinds.Nil c) = false
 
-abbrev pub flag_text : List ℕ → List ℕ
-flag_text flag = codes "{\"block_id_flag\": \"" ++ flag ++ codes "\", \"validator_address\": "
-
-abbrev pub signer_text : List ℕ → Cast → List ℕ
-signer_text flag c = flag_text flag ++ bytes_text c.address
-
-abbrev pub named_time : Cast → List ℕ
-named_time c = name_text (codes "timestamp") ++ time_text c.time
-
-abbrev pub signature_text : Cast → List ℕ
-signature_text c = bytes_member (codes "signature") c.signature ++ codes "}"
+-- who signed, when, and the signature
+abbrev pub signed_members : Cast → List (List ℕ × Json)
+signed_members c =
+    codes "validator_address" is bytes_json c.address ∷ codes "timestamp" is time_json c.time ∷ codes "signature" is bytes_json c.signature ∷ []
 
 -- a vote with the name of its flag
-unfoldable pub cast_text : List ℕ → Cast → List ℕ
-cast_text flag c = signer_text flag c ++ named_time c ++ signature_text c
+unfoldable pub cast_json : List ℕ → Cast → Json
+cast_json flag c = object (codes "block_id_flag" is string flag ∷ signed_members c)
 
--- a vote that isn't there: no address, no time (Go's zero time), no signature
-abbrev pub absent_text : List ℕ
-absent_text = codes "{\"block_id_flag\": \"BLOCK_ID_FLAG_ABSENT\", \"validator_address\": \"\", \"timestamp\": \"0001-01-01T00:00:00Z\", \"signature\": \"\"}"
+-- no address, no time (Go's zero time), no signature
+unfoldable pub unsigned_members : List (List ℕ × Json)
+unsigned_members =
+    codes "validator_address" is string [] ∷ codes "timestamp" is string (codes "0001-01-01T00:00:00Z") ∷ codes "signature" is string [] ∷ []
 
-abbrev pub entry_text : CommitVote → List ℕ
-entry_text kinds.Absent = absent_text
-entry_text (kinds.Commit c) = cast_text (codes "BLOCK_ID_FLAG_COMMIT") c
-entry_text (kinds.Nil c) = cast_text (codes "BLOCK_ID_FLAG_NIL") c
+-- a vote that isn't there
+unfoldable pub absent_json : Json
+absent_json = object (codes "block_id_flag" is string (codes "BLOCK_ID_FLAG_ABSENT") ∷ unsigned_members)
+
+abbrev pub entry_json : CommitVote → Json
+entry_json kinds.Absent = absent_json
+entry_json (kinds.Commit c) = cast_json (codes "BLOCK_ID_FLAG_COMMIT") c
+entry_json (kinds.Nil c) = cast_json (codes "BLOCK_ID_FLAG_NIL") c
 
 -- a part that isn't carried is absent
-unfoldable pub carried_text : Option SentVotes → CommitVote → List ℕ
-carried_text votes v = if is_carried votes v then entry_text v else absent_text
+unfoldable pub carried_json : Option SentVotes → CommitVote → Json
+carried_json votes v = if is_carried votes v then entry_json v else absent_json
 
--- a part of a list, by its place: a comma stands before each but the first
-abbrev pub listed_entry : Option SentVotes → ℕ × CommitVote → List ℕ
-listed_entry votes (place, v) = if nat_lt 0 place then codes ", " ++ carried_text votes v else carried_text votes v
-
-abbrev pub commit_height_text : ℕ → List ℕ
-commit_height_text height = codes "{\"height\": \"" ++ decimal height
-
-abbrev pub round_text : ℕ → List ℕ
-round_text round = codes "\", \"round\": " ++ decimal round ++ codes ", \"block_id\": "
+-- the round, what was voted for, and the votes
+unfoldable pub round_members : Option SentVotes → Signed → List (List ℕ × Json)
+round_members votes s =
+    codes "round" is number s.round ∷ codes "block_id" is id_json s.block ∷ codes "signatures" is array (map (carried_json votes) s.votes) ∷ []
 
 -- the commit has its header's height
-abbrev pub commit_head : Signed → List ℕ
-commit_head s = commit_height_text s.header.height ++ round_text s.round
-
-abbrev pub block_text : Signed → List ℕ
-block_text s = commit_head s ++ id_text s.block
-
-abbrev pub listing_text : Option SentVotes → List CommitVote → List ℕ
-listing_text votes entries = codes ", \"signatures\": [" ++ flat_map (listed_entry votes) (enumerate_from 0 entries)
-
-abbrev pub entries_text : Option SentVotes → List CommitVote → List ℕ
-entries_text votes entries = listing_text votes entries ++ codes "]}"
-
-unfoldable pub commit_text : Option SentVotes → Signed → List ℕ
-commit_text votes s = block_text s ++ entries_text votes s.votes
+unfoldable pub commit_json : Option SentVotes → Signed → Json
+commit_json votes s = object (codes "height" is quoted s.header.height ∷ round_members votes s)
 
 -- ---- both (CometBFT, `SignedHeader`)
 
-abbrev pub first_text : Signed → List ℕ
-first_text s = codes "{\"header\": " ++ header_text s.fields
-
-abbrev pub named_commit : Option SentVotes → Signed → List ℕ
-named_commit votes s = codes ", \"commit\": " ++ commit_text votes s
-
-abbrev pub second_text : Option SentVotes → Signed → List ℕ
-second_text votes s = named_commit votes s ++ codes "}"
-
-unfoldable pub signed_header_text : Option SentVotes → Signed → List ℕ
-signed_header_text votes s = first_text s ++ second_text votes s
+unfoldable pub signed_header_json : Option SentVotes → Signed → Json
+signed_header_json votes s = object (codes "header" is header_json s.fields ∷ codes "commit" is commit_json votes s ∷ [])

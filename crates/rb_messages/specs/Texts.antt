@@ -1,26 +1,29 @@
 -- The text of an update's message and of an unsigned transaction, as protojson writes them (ibc-go, `MsgUpdateClient`; Cosmos SDK, `Tx`).
-use Rattle.std.specs.Prelude.{ℕ, List, ◌++◌, codes, nat_lt, if◌then◌else◌}
+use Rattle.std.specs.Prelude.{ℕ, false, true, List, [], ◌∷◌, ◌++◌, codes, nat_lt, if◌then◌else◌}
 use Rattle.std.specs.List.{enumerate_from, flat_map}
 use Rattle.std.specs.Fmt.{decimal}
+use Rattle.rb_script_text.specs.Json.{members_of, members_text, more_text, name_text, string, ◌is◌}
 use Rattle.rb_messages.specs.declared.transaction_text.Fee.{Fee as CodeFee}
 use Rattle.rb_import_setup.specs.declared.sender.UpdateField.{UpdateField}
 use Rattle.rb_import_setup.specs.declared.sender.UpdateField.TheVariants.{ClientMessage, Header}
 
--- ---- an update
+-- ---- an update; the client message is JSON already
 
-abbrev pub client_text : List ℕ → List ℕ
-client_text client = codes "{\"@type\": \"/ibc.core.client.v1.MsgUpdateClient\", \"client_id\": \"" ++ client ++ codes "\", "
+unfoldable pub client_text : List ℕ → List ℕ
+client_text client =
+    codes "{"
+    ++ members_text false (members_of (codes "@type" is string (codes "/ibc.core.client.v1.MsgUpdateClient") ∷ codes "client_id" is string client ∷ []))
 
 -- the field's name, which ibc-go changed in its version 7
 abbrev pub field_name : UpdateField → List ℕ
-field_name ClientMessage = codes "\"client_message\": "
-field_name Header = codes "\"header\": "
+field_name ClientMessage = codes "client_message"
+field_name Header = codes "header"
 
 unfoldable pub field_text : UpdateField → List ℕ → List ℕ
-field_text field message = field_name field ++ message
+field_text field message = name_text true (field_name field) ++ message
 
-abbrev pub signer_text : List ℕ → List ℕ
-signer_text signer = codes ", \"signer\": \"" ++ signer ++ codes "\"}"
+unfoldable pub signer_text : List ℕ → List ℕ
+signer_text signer = more_text (codes "signer" is string signer ∷ []) ++ codes "}"
 
 unfoldable pub update_message_text : List ℕ → UpdateField → List ℕ → List ℕ → List ℕ
 update_message_text client field message signer = client_text client ++ field_text field message ++ signer_text signer

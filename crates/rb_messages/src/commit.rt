@@ -1,133 +1,81 @@
-//! The text of a commit (CometBFT, `Commit`), with the votes that an update carries.
-ghost use Rattle.std.specs.Prelude.{◌≡◌, ◌++◌, OnOk, string_bytes};
-ghost use Rattle.std.specs.List.{enumerate_from, flat_map};
+//! A commit as JSON (CometBFT, `Commit`), with the votes that an update carries.
+ghost use Rattle.std.specs.Prelude.{◌≡◌, ◌++◌, map, OnOk, string_bytes};
 ghost use Rattle.std.specs.Option.{option_map};
 ghost use Rattle.std.specs.Str.{bytes_eq};
 ghost use Rattle.rb_step.specs.Sent.{sent_view};
 ghost use Rattle.rb_import_answers.specs.Headers.{signed_view};
-ghost use Rattle.rb_messages.specs.SignedTexts.{absent_text, block_text, carried_text, cast_text, commit_head, commit_height_text, commit_text, entry_text, flag_text, is_carried, is_sender, listed_entry, listing_text, named_time, round_text, entries_text, signature_text, signer_text};
+ghost use Rattle.rb_script_text.specs.Json.{array, json_text, more_text};
+ghost use Rattle.rb_messages.specs.SignedTexts.{absent_json, carried_json, cast_json, commit_json, entry_json, is_carried, is_sender, unsigned_members, round_members, signed_members};
 
 use crate::header::push_id;
-use crate::text::{push_bytes, push_member, push_name, push_time};
-use rb_base::Height;
+use crate::text::{push_bytes, push_quoted, push_time};
 use rb_import_answers::{Cast, CommitVote, SignedHeader};
+use rb_script_text::{push_comma, push_name, push_number, push_text};
 use rb_step::SentVotes;
 use std::alloc::AllocError;
 
-/// A vote that isn't there.
-const ABSENT: &str =
-    "{\"block_id_flag\": \"BLOCK_ID_FLAG_ABSENT\", \"validator_address\": \"\", \"timestamp\": \"0001-01-01T00:00:00Z\", \"signature\": \"\"}";
-
 /// Adds the commit of a header. All votes stand in it, or, where the update carries only those that it needs, these alone:
 /// the others are absent.
-#[tactic(auto, using(crate::proofs::Texts::added), unfolding(crate::specs::SignedTexts::commit_text))]
+#[tactic(auto, unfolding(crate::specs::SignedTexts::commit_json))]
 pub(crate) fn push_commit(
     text: &mut String,
     votes: &Option<SentVotes>,
     signed: &SignedHeader,
 ) -> Result<(), AllocError>
-    ensures { OnOk result (string_bytes text.new ≡ string_bytes text.old ++ commit_text (option_map sent_view votes.now) (signed_view signed.now)) }
+    ensures { OnOk result (string_bytes text.new ≡ string_bytes text.old ++ json_text (commit_json (option_map sent_view votes.now) (signed_view signed.now))) }
 {
-    push_block(text, signed)?;
+    text.push_str("{")?;
+    push_quoted(text, false, "height", signed.height.get())?;
+    push_round(text, votes, signed)?;
+    text.push_str("}")
+}
+
+/// Adds the round, what was voted for, and the votes.
+#[tactic(auto, unfolding(crate::specs::SignedTexts::round_members))]
+fn push_round(
+    text: &mut String,
+    votes: &Option<SentVotes>,
+    signed: &SignedHeader,
+) -> Result<(), AllocError>
+    ensures { OnOk result (string_bytes text.new ≡ string_bytes text.old ++ more_text (round_members (option_map sent_view votes.now) (signed_view signed.now))) }
+{
+    push_number(text, true, "round", signed.round)?;
+    push_name(text, true, "block_id")?;
+    push_id(text, &signed.block, signed.parts_total, &signed.parts_hash)?;
+    push_name(text, true, "signatures")?;
     push_entries(text, votes, signed.votes.as_slice())
 }
 
-#[tactic(auto, using(crate::proofs::Texts::added))]
-fn push_block(text: &mut String, signed: &SignedHeader) -> Result<(), AllocError>
-    ensures { OnOk result (string_bytes text.new ≡ string_bytes text.old ++ block_text (signed_view signed.now)) }
-{
-    push_commit_head(text, signed)?;
-    push_id(text, &signed.block, signed.parts_total, &signed.parts_hash)
-}
-
-/// Adds the height and the round of a commit.
-#[tactic(auto, using(crate::proofs::Texts::added))]
-fn push_commit_head(text: &mut String, signed: &SignedHeader) -> Result<(), AllocError>
-    ensures { OnOk result (string_bytes text.new ≡ string_bytes text.old ++ commit_head (signed_view signed.now)) }
-{
-    push_commit_height(text, signed.height)?;
-    push_round(text, signed.round)
-}
-
-fn push_commit_height(text: &mut String, height: Height) -> Result<(), AllocError>
-    ensures { OnOk result (string_bytes text.new ≡ string_bytes text.old ++ commit_height_text height) }
-{
-    write!(text, "{{\"height\": \"{height}")
-}
-
-fn push_round(text: &mut String, round: u64) -> Result<(), AllocError>
-    ensures { OnOk result (string_bytes text.new ≡ string_bytes text.old ++ round_text round) }
-{
-    write!(text, "\", \"round\": {round}, \"block_id\": ")
-}
-
-/// Adds the parts of validators, and the end of a commit.
-#[tactic(auto, using(crate::proofs::Texts::added))]
+/// Adds the parts of validators, in order.
 fn push_entries(
     text: &mut String,
     votes: &Option<SentVotes>,
     entries: &[CommitVote],
 ) -> Result<(), AllocError>
-    ensures { OnOk result (string_bytes text.new ≡ string_bytes text.old ++ entries_text (option_map sent_view votes.now) entries.now) }
+    ensures { OnOk result (string_bytes text.new
+        ≡ string_bytes text.old ++ json_text (array (map (carried_json (option_map sent_view votes.now)) entries.now))) }
 {
-    push_listing(text, votes, entries)?;
-    text.push_str("]}")
-}
-
-#[tactic(auto, using(crate::proofs::Texts::added))]
-fn push_listing(
-    text: &mut String,
-    votes: &Option<SentVotes>,
-    entries: &[CommitVote],
-) -> Result<(), AllocError>
-    ensures { OnOk result (string_bytes text.new ≡ string_bytes text.old ++ listing_text (option_map sent_view votes.now) entries.now) }
-{
-    text.push_str(", \"signatures\": [")?;
-    push_all(text, votes, entries)
-}
-
-/// Adds the parts of validators, in order.
-fn push_all(
-    text: &mut String,
-    votes: &Option<SentVotes>,
-    entries: &[CommitVote],
-) -> Result<(), AllocError>
-    ensures { OnOk result (string_bytes text.new ≡ string_bytes text.old ++ flat_map (listed_entry (option_map sent_view votes.now)) (enumerate_from 0 entries.now)) }
-{
+    text.push_str("[")?;
     for (place, entry) in entries.iter().enumerate() {
-        push_listed(text, votes, place, entry)?;
+        push_comma(text, place > 0)?;
+        push_carried(text, votes, entry)?;
     }
-    Ok(())
-}
-
-/// Adds the part at a place of a list.
-fn push_listed(
-    text: &mut String,
-    votes: &Option<SentVotes>,
-    place: usize,
-    entry: &CommitVote,
-) -> Result<(), AllocError>
-    ensures { OnOk result (string_bytes text.new ≡ string_bytes text.old ++ listed_entry (option_map sent_view votes.now) (place, entry.now)) }
-{
-    if place > 0 {
-        text.push_str(", ")?;
-    }
-    push_carried(text, votes, entry)
+    text.push_str("]")
 }
 
 /// Adds a validator's part, which is absent where the update doesn't carry it.
-#[tactic(auto, unfolding(crate::specs::SignedTexts::carried_text))]
+#[tactic(auto, unfolding(crate::specs::SignedTexts::carried_json))]
 fn push_carried(
     text: &mut String,
     votes: &Option<SentVotes>,
     entry: &CommitVote,
 ) -> Result<(), AllocError>
-    ensures { OnOk result (string_bytes text.new ≡ string_bytes text.old ++ carried_text (option_map sent_view votes.now) entry.now) }
+    ensures { OnOk result (string_bytes text.new ≡ string_bytes text.old ++ json_text (carried_json (option_map sent_view votes.now) entry.now)) }
 {
     if is_carried(votes, entry) {
         push_entry(text, entry)
     } else {
-        text.push_str(ABSENT)
+        push_absent(text)
     }
 }
 
@@ -161,54 +109,52 @@ fn is_address(sender: &[u8; 20], address: &[u8; 20]) -> bool
 }
 
 fn push_entry(text: &mut String, entry: &CommitVote) -> Result<(), AllocError>
-    ensures { OnOk result (string_bytes text.new ≡ string_bytes text.old ++ entry_text entry.now) }
+    ensures { OnOk result (string_bytes text.new ≡ string_bytes text.old ++ json_text (entry_json entry.now)) }
 {
     match entry {
-        CommitVote::Absent => text.push_str(ABSENT),
+        CommitVote::Absent => push_absent(text),
         CommitVote::Commit(cast) => push_cast(text, "BLOCK_ID_FLAG_COMMIT", cast),
         CommitVote::Nil(cast) => push_cast(text, "BLOCK_ID_FLAG_NIL", cast),
     }
 }
 
-/// Adds a vote with the name of its flag.
-#[tactic(auto, using(crate::proofs::Texts::added), unfolding(crate::specs::SignedTexts::cast_text))]
-fn push_cast(text: &mut String, flag: &str, cast: &Cast) -> Result<(), AllocError>
-    ensures { OnOk result (string_bytes text.new ≡ string_bytes text.old ++ cast_text flag.now cast.now) }
+/// Adds a vote that isn't there.
+#[tactic(auto, unfolding(crate::specs::SignedTexts::absent_json))]
+fn push_absent(text: &mut String) -> Result<(), AllocError>
+    ensures { OnOk result (string_bytes text.new ≡ string_bytes text.old ++ json_text absent_json) }
 {
-    push_signer(text, flag, cast)?;
-    push_named_time(text, cast)?;
-    push_signature(text, cast)
-}
-
-#[tactic(auto, using(crate::proofs::Texts::added))]
-fn push_signer(text: &mut String, flag: &str, cast: &Cast) -> Result<(), AllocError>
-    ensures { OnOk result (string_bytes text.new ≡ string_bytes text.old ++ signer_text flag.now cast.now) }
-{
-    push_flag(text, flag)?;
-    push_bytes(text, &cast.address)
-}
-
-fn push_flag(text: &mut String, flag: &str) -> Result<(), AllocError>
-    ensures { OnOk result (string_bytes text.new ≡ string_bytes text.old ++ flag_text flag.now) }
-{
-    write!(
-        text,
-        "{{\"block_id_flag\": \"{flag}\", \"validator_address\": "
-    )
-}
-
-#[tactic(auto, using(crate::proofs::Texts::added))]
-fn push_named_time(text: &mut String, cast: &Cast) -> Result<(), AllocError>
-    ensures { OnOk result (string_bytes text.new ≡ string_bytes text.old ++ named_time cast.now) }
-{
-    push_name(text, "timestamp")?;
-    push_time(text, cast.time)
-}
-
-#[tactic(auto, using(crate::proofs::Texts::added))]
-fn push_signature(text: &mut String, cast: &Cast) -> Result<(), AllocError>
-    ensures { OnOk result (string_bytes text.new ≡ string_bytes text.old ++ signature_text cast.now) }
-{
-    push_member(text, "signature", &cast.signature)?;
+    text.push_str("{")?;
+    push_text(text, false, "block_id_flag", "BLOCK_ID_FLAG_ABSENT")?;
+    push_unsigned(text)?;
     text.push_str("}")
+}
+
+/// Adds that there is no address, no time and no signature.
+#[tactic(auto, unfolding(crate::specs::SignedTexts::unsigned_members))]
+fn push_unsigned(text: &mut String) -> Result<(), AllocError>
+    ensures { OnOk result (string_bytes text.new ≡ string_bytes text.old ++ more_text unsigned_members) }
+{
+    push_text(text, true, "validator_address", "")?;
+    push_text(text, true, "timestamp", "0001-01-01T00:00:00Z")?;
+    push_text(text, true, "signature", "")
+}
+
+/// Adds a vote with the name of its flag.
+#[tactic(auto, unfolding(crate::specs::SignedTexts::cast_json))]
+fn push_cast(text: &mut String, flag: &str, cast: &Cast) -> Result<(), AllocError>
+    ensures { OnOk result (string_bytes text.new ≡ string_bytes text.old ++ json_text (cast_json flag.now cast.now)) }
+{
+    text.push_str("{")?;
+    push_text(text, false, "block_id_flag", flag)?;
+    push_signed(text, cast)?;
+    text.push_str("}")
+}
+
+/// Adds who signed, when, and the signature.
+fn push_signed(text: &mut String, cast: &Cast) -> Result<(), AllocError>
+    ensures { OnOk result (string_bytes text.new ≡ string_bytes text.old ++ more_text (signed_members cast.now)) }
+{
+    push_bytes(text, true, "validator_address", &cast.address)?;
+    push_time(text, "timestamp", cast.time)?;
+    push_bytes(text, true, "signature", &cast.signature)
 }

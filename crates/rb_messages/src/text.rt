@@ -1,43 +1,49 @@
-//! Values as protojson writes them. None of them has a character that JSON escapes.
-ghost use Rattle.std.specs.Prelude.{◌≡◌, ◌++◌, OnOk, string_bytes};
-ghost use Rattle.rb_messages.specs.SignedTexts.{bytes_member, bytes_text, name_text, time_text};
+//! Members as protojson writes them. None of their values has a character that JSON escapes.
+ghost use Rattle.std.specs.Prelude.{◌≡◌, ◌++◌, true, OnOk, string_bytes};
+ghost use Rattle.std.specs.Fmt.{decimal};
+ghost use Rattle.base64.specs.Engines.{standard};
+ghost use Rattle.base64.specs.GeneralPurpose.{encode_of};
+ghost use Rattle.rb_script_text.specs.Json.{name_text, string_text};
+ghost use Rattle.rb_script_text.specs.Moments.{moment_text};
 
 use base64::engine::general_purpose::STANDARD;
 use rb_base::Moment;
-use rb_script_text::push_moment;
+use rb_script_text::{push_moment, push_name};
 use std::alloc::AllocError;
 
-/// Adds bytes in base64, as a text.
-#[tactic(auto, unfolding(crate::specs::SignedTexts::bytes_text))]
-pub(crate) fn push_bytes(text: &mut String, bytes: &[u8]) -> Result<(), AllocError>
-    ensures { OnOk result (string_bytes text.new ≡ string_bytes text.old ++ bytes_text bytes.now) }
+/// Adds a member that is a number of 64 bits.
+pub(crate) fn push_quoted(
+    text: &mut String,
+    is_later: bool,
+    name: &str,
+    number: u64,
+) -> Result<(), AllocError>
+    ensures { OnOk result (string_bytes text.new ≡ string_bytes text.old ++ (name_text is_later name.now ++ string_text (decimal number))) }
 {
+    push_name(text, is_later, name)?;
+    write!(text, "\"{number}\"")
+}
+
+/// Adds a member of bytes, in base64.
+pub(crate) fn push_bytes(
+    text: &mut String,
+    is_later: bool,
+    name: &str,
+    bytes: &[u8],
+) -> Result<(), AllocError>
+    ensures { OnOk result (string_bytes text.new ≡ string_bytes text.old ++ (name_text is_later name.now ++ string_text (encode_of standard bytes.now))) }
+{
+    push_name(text, is_later, name)?;
     text.push_str("\"")?;
     STANDARD.encode_string(bytes, text)?;
     text.push_str("\"")
 }
 
-/// Adds the name of a member behind the one before it, up to where its value stands.
-pub(crate) fn push_name(text: &mut String, name: &str) -> Result<(), AllocError>
-    ensures { OnOk result (string_bytes text.new ≡ string_bytes text.old ++ name_text name.now) }
+/// Adds a member that is a time, behind others, as RFC 3339 has it.
+pub(crate) fn push_time(text: &mut String, name: &str, time: Moment) -> Result<(), AllocError>
+    ensures { OnOk result (string_bytes text.new ≡ string_bytes text.old ++ (name_text true name.now ++ string_text (moment_text time))) }
 {
-    write!(text, ", \"{name}\": ")
-}
-
-/// Adds a member of bytes.
-#[tactic(auto, using(crate::proofs::Texts::added), unfolding(crate::specs::SignedTexts::bytes_member))]
-pub(crate) fn push_member(text: &mut String, name: &str, bytes: &[u8]) -> Result<(), AllocError>
-    ensures { OnOk result (string_bytes text.new ≡ string_bytes text.old ++ bytes_member name.now bytes.now) }
-{
-    push_name(text, name)?;
-    push_bytes(text, bytes)
-}
-
-/// Adds a time, as RFC 3339 has it.
-#[tactic(auto, unfolding(crate::specs::SignedTexts::time_text))]
-pub(crate) fn push_time(text: &mut String, time: Moment) -> Result<(), AllocError>
-    ensures { OnOk result (string_bytes text.new ≡ string_bytes text.old ++ time_text time) }
-{
+    push_name(text, true, name)?;
     text.push_str("\"")?;
     push_moment(text, time)?;
     text.push_str("\"")

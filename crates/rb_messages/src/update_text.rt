@@ -1,8 +1,9 @@
-//! The message of an update (ICS 2; ibc-go, `MsgUpdateClient`).
+//! The message of an update as JSON (ICS 2; ibc-go, `MsgUpdateClient`).
 ghost use Rattle.std.specs.Prelude.{◌≡◌, ◌++◌, IfOk, OnOk, string_bytes};
 ghost use Rattle.rb_messages.specs.Texts.{client_text, field_name, field_text, signer_text, update_message_text};
 
 use rb_import_setup::UpdateField;
+use rb_script_text::{push_name, push_text};
 use std::alloc::{AllocError, Global};
 
 /// A message that updates a client on its host by a client message, which is JSON, and that an account signs. The
@@ -24,21 +25,21 @@ pub(crate) fn update_message_text(
     Ok(text)
 }
 
+#[tactic(auto, unfolding(crate::specs::Texts::client_text))]
 fn push_client(text: &mut String, client: &str) -> Result<(), AllocError>
     ensures { OnOk result (string_bytes text.new ≡ string_bytes text.old ++ client_text client.now) }
 {
-    write!(
-        text,
-        "{{\"@type\": \"/ibc.core.client.v1.MsgUpdateClient\", \"client_id\": \"{client}\", "
-    )
+    text.push_str("{")?;
+    push_text(text, false, "@type", "/ibc.core.client.v1.MsgUpdateClient")?;
+    push_text(text, true, "client_id", client)
 }
 
 fn field_name(field: UpdateField) -> &'static str
     ensures { result.now ≡ field_name field }
 {
     match field {
-        UpdateField::ClientMessage => "\"client_message\": ",
-        UpdateField::Header => "\"header\": ",
+        UpdateField::ClientMessage => "client_message",
+        UpdateField::Header => "header",
     }
 }
 
@@ -46,12 +47,14 @@ fn field_name(field: UpdateField) -> &'static str
 fn push_field(text: &mut String, field: UpdateField, message: &str) -> Result<(), AllocError>
     ensures { OnOk result (string_bytes text.new ≡ string_bytes text.old ++ field_text field message.now) }
 {
-    text.push_str(field_name(field))?;
+    push_name(text, true, field_name(field))?;
     text.push_str(message)
 }
 
+#[tactic(auto, unfolding(crate::specs::Texts::signer_text))]
 fn push_signer(text: &mut String, signer: &str) -> Result<(), AllocError>
     ensures { OnOk result (string_bytes text.new ≡ string_bytes text.old ++ signer_text signer.now) }
 {
-    write!(text, ", \"signer\": \"{signer}\"}}")
+    push_text(text, true, "signer", signer)?;
+    text.push_str("}")
 }

@@ -1,80 +1,79 @@
-//! Sets of validators (CometBFT, `ValidatorSet`).
-ghost use Rattle.std.specs.Prelude.{◌≡◌, ◌++◌, OnOk, string_bytes};
-ghost use Rattle.std.specs.List.{enumerate_from, flat_map};
-ghost use Rattle.rb_messages.specs.MessageTexts.{address_text, key_head, key_text, listed_text, members_text, named_proposer, opening_text, power_text, proposer_in, proposer_text, set_text, total_text, validator_text};
+//! Sets of validators as JSON (CometBFT, `ValidatorSet`).
+ghost use Rattle.std.specs.Prelude.{◌≡◌, ◌++◌, false, true, codes, map, OnOk, string_bytes};
+ghost use Rattle.rb_script_text.specs.Json.{array, json_text, more_text, name_text};
+ghost use Rattle.rb_messages.specs.MessageTexts.{key_json, named_key, proposer_in, set_json, set_members, total_members, validator_json, voter_members};
 
-use crate::text::push_bytes;
+use crate::text::{push_bytes, push_quoted};
+use rb_script_text::{push_comma, push_name, push_text};
 use rb_valset::{PublicKey, Validator, ValidatorSet};
 use std::alloc::AllocError;
 
-/// Adds a set, in set order. Its proposer is the validator of an address; where the set has none of it, the first one: a
+/// Adds a member that is a set, in set order. Its proposer is the validator of an address; where the set has none of it, the first one: a
 /// light client goes by no proposer, but a set has to have one.
-#[tactic(auto, using(crate::proofs::Texts::added), unfolding(crate::specs::MessageTexts::set_text))]
 pub(crate) fn push_set(
     text: &mut String,
+    name: &str,
     set: &ValidatorSet,
     address: &[u8; 20],
 ) -> Result<(), AllocError>
-    ensures { OnOk result (string_bytes text.new ≡ string_bytes text.old ++ set_text address.now set.now) }
+    ensures { OnOk result (string_bytes text.new ≡ string_bytes text.old ++ (name_text true name.now ++ json_text (set_json address.now set.now))) }
 {
-    push_members(text, set.members())?;
-    push_proposer(text, proposer_in(set, address))?;
-    push_total(text, set)
+    push_name(text, true, name)?;
+    push_object(text, set, address)
 }
 
-/// Adds the beginning of a set: its members.
-#[tactic(auto, using(crate::proofs::Texts::added))]
-fn push_members(text: &mut String, members: &[Validator]) -> Result<(), AllocError>
-    ensures { OnOk result (string_bytes text.new ≡ string_bytes text.old ++ members_text members.now) }
+#[tactic(auto, unfolding(crate::specs::MessageTexts::set_json))]
+fn push_object(text: &mut String, set: &ValidatorSet, address: &[u8; 20]) -> Result<(), AllocError>
+    ensures { OnOk result (string_bytes text.new ≡ string_bytes text.old ++ json_text (set_json address.now set.now)) }
 {
-    push_opening(text, members)?;
+    text.push_str("{")?;
+    push_listed(text, set)?;
+    push_members(text, proposer_in(set, address), set.total())?;
+    text.push_str("}")
+}
+
+/// Adds the validators, as the first member.
+fn push_listed(text: &mut String, set: &ValidatorSet) -> Result<(), AllocError>
+    ensures { OnOk result (string_bytes text.new ≡ string_bytes text.old ++ (name_text false (codes "validators") ++ json_text (array (map validator_json set.now)))) }
+{
+    push_name(text, false, "validators")?;
+    push_validators(text, set.members())
+}
+
+fn push_validators(text: &mut String, members: &[Validator]) -> Result<(), AllocError>
+    ensures { OnOk result (string_bytes text.new ≡ string_bytes text.old ++ json_text (array (map validator_json members.now))) }
+{
+    text.push_str("[")?;
+    for (place, member) in members.iter().enumerate() {
+        push_comma(text, place > 0)?;
+        push_validator(text, member)?;
+    }
     text.push_str("]")
 }
 
-#[tactic(auto, using(crate::proofs::Texts::added))]
-fn push_opening(text: &mut String, members: &[Validator]) -> Result<(), AllocError>
-    ensures { OnOk result (string_bytes text.new ≡ string_bytes text.old ++ opening_text members.now) }
-{
-    text.push_str("{\"validators\": [")?;
-    push_all(text, members)
-}
-
-/// Adds validators, in order.
-fn push_all(text: &mut String, members: &[Validator]) -> Result<(), AllocError>
-    ensures { OnOk result (string_bytes text.new ≡ string_bytes text.old ++ flat_map listed_text (enumerate_from 0 members.now)) }
-{
-    for (place, member) in members.iter().enumerate() {
-        push_listed(text, place, member)?;
-    }
-    Ok(())
-}
-
-/// Adds the validator at a place of a list.
-fn push_listed(text: &mut String, place: usize, member: &Validator) -> Result<(), AllocError>
-    ensures { OnOk result (string_bytes text.new ≡ string_bytes text.old ++ listed_text (place, member.now)) }
-{
-    if place > 0 {
-        text.push_str(", ")?;
-    }
-    push_validator(text, member)
-}
-
-/// Adds the proposer, if there is one.
-fn push_proposer(text: &mut String, proposer: Option<Validator>) -> Result<(), AllocError>
-    ensures { OnOk result (string_bytes text.new ≡ string_bytes text.old ++ proposer_text proposer) }
+/// Adds what stands behind the validators: the proposer, if there is one, and the total power.
+fn push_members(
+    text: &mut String,
+    proposer: Option<Validator>,
+    total: u64,
+) -> Result<(), AllocError>
+    ensures { OnOk result (string_bytes text.new ≡ string_bytes text.old ++ more_text (set_members proposer total)) }
 {
     match proposer {
-        Some(member) => push_named(text, &member),
-        None => Ok(()),
+        Some(member) => {
+            push_name(text, true, "proposer")?;
+            push_validator(text, &member)?;
+            push_total(text, total)
+        }
+        None => push_total(text, total),
     }
 }
 
-#[tactic(auto, using(crate::proofs::Texts::added))]
-fn push_named(text: &mut String, member: &Validator) -> Result<(), AllocError>
-    ensures { OnOk result (string_bytes text.new ≡ string_bytes text.old ++ named_proposer member.now) }
+#[tactic(auto, unfolding(crate::specs::MessageTexts::total_members))]
+fn push_total(text: &mut String, total: u64) -> Result<(), AllocError>
+    ensures { OnOk result (string_bytes text.new ≡ string_bytes text.old ++ more_text (total_members total)) }
 {
-    text.push_str(", \"proposer\": ")?;
-    push_validator(text, member)
+    push_quoted(text, true, "total_voting_power", total)
 }
 
 /// The validator of an address, or the first one.
@@ -87,57 +86,42 @@ fn proposer_in(set: &ValidatorSet, address: &[u8; 20]) -> Option<Validator>
     }
 }
 
-/// Adds the end of a set: its total power.
-fn push_total(text: &mut String, set: &ValidatorSet) -> Result<(), AllocError>
-    ensures { OnOk result (string_bytes text.new ≡ string_bytes text.old ++ total_text set.now) }
-{
-    let total = set.total();
-    write!(text, ", \"total_voting_power\": \"{total}\"}}")
-}
-
 /// Adds a validator.
-#[tactic(auto, using(crate::proofs::Texts::added), unfolding(crate::specs::MessageTexts::validator_text))]
+#[tactic(auto, unfolding(crate::specs::MessageTexts::validator_json))]
 fn push_validator(text: &mut String, member: &Validator) -> Result<(), AllocError>
-    ensures { OnOk result (string_bytes text.new ≡ string_bytes text.old ++ validator_text member.now) }
+    ensures { OnOk result (string_bytes text.new ≡ string_bytes text.old ++ json_text (validator_json member.now)) }
 {
-    push_address(text, member)?;
-    push_public_key(text, member)?;
-    push_power(text, member)
+    text.push_str("{")?;
+    push_bytes(text, false, "address", member.address())?;
+    push_voter(text, member)?;
+    text.push_str("}")
 }
 
-#[tactic(auto, using(crate::proofs::Texts::added))]
-fn push_address(text: &mut String, member: &Validator) -> Result<(), AllocError>
-    ensures { OnOk result (string_bytes text.new ≡ string_bytes text.old ++ address_text member.now) }
+/// Adds the key, the power, and the priority, which is in no hash, so it is 0.
+fn push_voter(text: &mut String, member: &Validator) -> Result<(), AllocError>
+    ensures { OnOk result (string_bytes text.new ≡ string_bytes text.old ++ more_text (voter_members member.now)) }
 {
-    text.push_str("{\"address\": ")?;
-    push_bytes(text, member.address())
+    push_name(text, true, "pub_key")?;
+    push_key(text, member.key())?;
+    push_quoted(text, true, "voting_power", member.power())?;
+    push_text(text, true, "proposer_priority", "0")
 }
 
-#[tactic(auto, using(crate::proofs::Texts::added))]
-fn push_public_key(text: &mut String, member: &Validator) -> Result<(), AllocError>
-    ensures { OnOk result (string_bytes text.new ≡ string_bytes text.old ++ key_text member.now) }
-{
-    text.push_str(key_head(member.key()))?;
-    push_bytes(text, member.key().as_bytes())
-}
-
-/// What stands before the bytes of a key: the name of its kind (CometBFT, `crypto.PublicKey`).
-fn key_head(key: &PublicKey) -> &'static str
-    ensures { result.now ≡ key_head key.now }
+/// Adds a key by the name of its kind (CometBFT, `crypto.PublicKey`).
+fn push_key(text: &mut String, key: &PublicKey) -> Result<(), AllocError>
+    ensures { OnOk result (string_bytes text.new ≡ string_bytes text.old ++ json_text (key_json key.now)) }
 {
     match key {
-        PublicKey::Ed25519(_) => ", \"pub_key\": {\"ed25519\": ",
-        PublicKey::Secp256k1(_) => ", \"pub_key\": {\"secp256k1\": ",
+        PublicKey::Ed25519(bytes) => push_named_key(text, "ed25519", bytes),
+        PublicKey::Secp256k1(bytes) => push_named_key(text, "secp256k1", bytes),
     }
 }
 
-/// Adds the end of a validator: its power, and its priority, which is in no hash, as 0.
-fn push_power(text: &mut String, member: &Validator) -> Result<(), AllocError>
-    ensures { OnOk result (string_bytes text.new ≡ string_bytes text.old ++ power_text member.now) }
+#[tactic(auto, unfolding(crate::specs::MessageTexts::named_key))]
+fn push_named_key(text: &mut String, name: &str, key: &[u8]) -> Result<(), AllocError>
+    ensures { OnOk result (string_bytes text.new ≡ string_bytes text.old ++ json_text (named_key name.now key.now)) }
 {
-    let power = member.power();
-    write!(
-        text,
-        "}}, \"voting_power\": \"{power}\", \"proposer_priority\": \"0\"}}"
-    )
+    text.push_str("{")?;
+    push_bytes(text, false, name, key)?;
+    text.push_str("}")
 }
