@@ -1,9 +1,9 @@
 //! An answer, known by what is in it.
-ghost use Rattle.std.specs.Prelude.{◌≡◌};
+ghost use Rattle.std.specs.Prelude.{◌≡◌, nat_lt};
 ghost use Rattle.serde_json.specs.View.{view};
 ghost use Rattle.rb_import_json.specs.FieldErrors.{Gives, or_flaw};
 ghost use Rattle.rb_import_json.specs.Fields.{object_view};
-ghost use Rattle.rb_import_answers.specs.Answers.{answer_view, begins_object, is_error, is_verified, json, known, marks_value, object_count, told, told_in, value_count, whole, without_votes};
+ghost use Rattle.rb_import_answers.specs.Answers.{answer_view, begins_object, is_error, is_verified, json, known, marks_value, max_objects, max_values, object_count, told, told_in, value_count, whole, without_votes};
 ghost use Rattle.rb_import_answers.specs.Unread.{unread};
 
 use crate::client::{
@@ -95,10 +95,7 @@ pub fn read_answer(alloc: Global, bytes: &[u8], since: u64) -> Result<NodeAnswer
     if bytes.len() > MAX_ANSWER_BYTES {
         return Err(whole(FieldErrorName::TooBig));
     }
-    if object_count(bytes) > MAX_OBJECTS {
-        return Err(whole(FieldErrorName::TooManyValues));
-    }
-    if value_count(bytes) > MAX_VALUES {
+    if has_too_many_objects(bytes) || has_too_many_values(bytes) {
         return Err(whole(FieldErrorName::TooManyValues));
     }
     let value = read_json(alloc, bytes)?;
@@ -109,6 +106,22 @@ pub fn read_answer(alloc: Global, bytes: &[u8], since: u64) -> Result<NodeAnswer
         Some(result) => read_known(alloc, &Object::new(result, Segment::Result), since),
         None => read_known(alloc, &Object::new(&value, Segment::Answer), since),
     }
+}
+
+/// Whether more bytes begin an object than may.
+#[tactic(auto, using(crate::proofs::Counts::few), unfolding(crate::specs::Answers::object_count))]
+fn has_too_many_objects(bytes: &[u8]) -> bool
+    ensures { result ≡ nat_lt max_objects (object_count bytes.now) }
+{
+    bytes.len() > MAX_OBJECTS && object_count(bytes) > MAX_OBJECTS
+}
+
+/// Whether more bytes mark a value than may.
+#[tactic(auto, using(crate::proofs::Counts::few), unfolding(crate::specs::Answers::value_count))]
+fn has_too_many_values(bytes: &[u8]) -> bool
+    ensures { result ≡ nat_lt max_values (value_count bytes.now) }
+{
+    bytes.len() > MAX_VALUES && value_count(bytes) > MAX_VALUES
 }
 
 /// How many bytes begin an object.
