@@ -22,7 +22,7 @@ use crate::signed::Signatures;
 use crate::verdicts::{VerdictIndex, verdict_on, verdicts_in};
 use rb_base::{Height, Moment};
 use rb_import_answers::{CommitVerdict, NodeAnswer, Signature, SignedHeader, ValidatorsPage};
-use rb_valset::{Validator, ValidatorSet};
+use rb_valset::{Known, Validator, ValidatorSet};
 use std::alloc::{AllocError, Global};
 
 /// An answer of `/commit`, its file with the SHA-256 of that, and the verdict on it, if there is one.
@@ -371,13 +371,14 @@ fn sets_of<'a>(
     ensures told { IfErr result (IsToldOf id.entry.now) }
 {
     let pages = pages_of(alloc, answers)?;
+    let mut known = Known::new(alloc);
     let mut sets = SeenSets::new(alloc);
     let mut last = None;
     for page in &pages {
         let height = page.page.height;
         if last != Some(height) {
             let same = of_height(pages.as_slice(), height);
-            add_set(alloc, id, height, same, commits, &mut sets)?;
+            add_set(alloc, id, height, same, commits, &mut known, &mut sets)?;
             last = Some(height);
         }
     }
@@ -392,6 +393,7 @@ fn add_set<'a>(
     height: Height,
     pages: &[Page<'a>],
     commits: &[Commit<'a>],
+    known: &mut Known,
     sets: &mut SeenSets<'a>,
 ) -> Result<(), ImportError<'a>>
     requires { IsStrictlyIncreasing (map (λ c. c.header.now.height) commits.now) }
@@ -410,7 +412,7 @@ fn add_set<'a>(
     if (members.len() as u64) < first.page.total {
         return Ok(());
     }
-    let set = set_of(alloc, id, first, members)?;
+    let set = set_of(alloc, id, first, members, known)?;
     judge_set(id, first, commit_of(commits, height), &set)?;
     sets.add(SeenSet {
         file: first.file,
@@ -484,13 +486,15 @@ fn set_of<'a>(
     id: &'a str,
     page: &Page<'a>,
     members: Vec<Validator>,
+    known: &mut Known,
 ) -> Result<ValidatorSet, ImportError<'a>>
     ensures set { IfOk result (λ set. set ≡ in_set_order members.items) }
     ensures refused { IfErr result (IsTold CheckErrorName.BadSet (IsSome (set_refusal members.items))) }
     ensures file { IfErr result (IsOfPage page.now) }
     ensures told { IfErr result (IsToldOf id.entry.now) }
 {
-    match ValidatorSet::new(alloc, members) {
+    known.make_room(alloc, members.len())?;
+    match ValidatorSet::new_by(alloc, members, known) {
         Ok(set) => Ok(set),
         Err(rb_valset::ValsetError::NoMemory) => Err(ImportError::NoMemory),
         Err(_) => {
