@@ -127,6 +127,13 @@ def fleet_cases(top):
     setup = top / "fleet-barred.toml"
     setup.write_text(setup_of(clients=["barred", *CLIENTS]))
     yield Case("a fleet with a file that can't be read", ["import", str(setup), str(top / "fleet")], b"", b"", b"device\n", 4)
+    # of such a file and a flawed answer the first is told
+    for barred, flawed, error, status in ("a", "b", b"device\n", 4), ("b", "a", b"refused Empty at -\n", 1):
+        folder, setup = top / "fleet" / f"barred-{barred}", top / f"fleet-barred-{barred}.toml"
+        (folder / f"{barred}.json").mkdir(parents=True)
+        (folder / f"{flawed}.json").write_text("")
+        setup.write_text(setup_of(clients=[folder.name, *CLIENTS]))
+        yield Case(f"a fleet with a file {barred} that can't be read", ["import", "--all-or-nothing", str(setup), str(top / "fleet")], b"", b"", error, status)
 
 
 def bloated_rows(top, words):

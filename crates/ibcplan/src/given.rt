@@ -87,7 +87,7 @@ pub fn script_of_setup<'a, R: Host>(
         script,
         notices,
         status,
-    } = made(&files, input, import)?;
+    } = made(rt, &files, input, import)?;
     Ok(GivenScript {
         script,
         file: input.name(),

@@ -92,7 +92,7 @@ pub fn sent_by_setup<'a, R: Threads + Sync, F: AnswerFolders, G: Gate + Sync>(
     ensures { IfOk result (λ sent. IfSome sent.parcel (AreMessagesOf (F.known files.now) input.now import.entry sent.told.status)) }
 {
     let senders = senders_of(files.alloc(), input)?;
-    let imported = made(files, input, import)?;
+    let imported = made(rt, files, input, import)?;
     let MadeScript {
         script,
         notices,
@@ -165,7 +165,7 @@ fn sent_by<'a, R: Threads + Sync, F: AnswerFolders, G: Gate + Sync>(
     ensures { IfOk result (λ sent. IfSome sent.parcel (IsParcelOf (F.known files.now) (script_view script) senders.now)) }
 {
     match sending_of(rt, files.alloc(), script, gate) {
-        Ok(sending) => proved(files, &sending, senders),
+        Ok(sending) => proved(rt, files, &sending, senders),
         Err(_) => Err(ProgramError::NoMemory),
     }
 }
@@ -191,7 +191,8 @@ fn sending_of<R: Threads + Sync, G: Gate + Sync>(
 }
 
 /// Judges the proofs of packet messages; where some aren't there, they are asked for, and else the messages are made.
-fn proved<'a, F: AnswerFolders>(
+fn proved<'a, R: Threads + Sync, F: AnswerFolders>(
+    rt: &R,
     files: &F,
     sending: &Sending,
     senders: &[Option<Sender>],
@@ -218,7 +219,7 @@ fn proved<'a, F: AnswerFolders>(
     }
     let updates = sending.updates.as_slice();
     let packets = texts.as_slice();
-    let parcel = parcel_of(files, config, updates, batches, senders, packets)?;
+    let parcel = parcel_of(rt, files, config, updates, batches, senders, packets)?;
     let (shell, lines) = told_of(files.alloc(), sending, senders, &parcel)?;
     let status = if left_out.is_empty() {
         status::DONE
@@ -237,7 +238,8 @@ fn proved<'a, F: AnswerFolders>(
 }
 
 /// Reads the answers on chains, and makes the messages of updates and the transactions.
-fn parcel_of<'a, F: AnswerFolders>(
+fn parcel_of<'a, R: Threads + Sync, F: AnswerFolders>(
+    rt: &R,
     files: &F,
     config: &Config,
     updates: &[PlannedUpdate],
@@ -249,7 +251,7 @@ fn parcel_of<'a, F: AnswerFolders>(
     ensures { IfOk result (HasParcel (F.known files.now) config.now updates.now batches.now senders.now) }
 {
     let chains = config.chains.as_slice();
-    let answers = read_answers(files, chains, updates)?;
+    let answers = read_answers(rt, files, chains, updates)?;
     let messages = files_of(files.alloc(), chains, answers.as_slice(), updates)?;
     let made = messages.as_slice();
     match transaction_files(files.alloc(), chains, senders, batches, made, packets) {

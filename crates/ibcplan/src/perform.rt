@@ -19,7 +19,7 @@ use ibcplan_cli::{
     Explained, Following, Given, Import, Input, Invocation, ProgramError, Progress, STANDARD_INPUT,
     ScriptOutput, ShownName, WantedTurns, WorkerCount, setup_for, status,
 };
-use ibcplan_folders::{ImportedText, WantedText, imported, wanted};
+use ibcplan_folders::{HostFolders, ImportedText, WantedText, imported, wanted};
 use rb_base::{Counted, Gate, Sink, write_whole};
 use rb_follow::{Form, NoJournal, greeting, json_of_fault};
 use rb_import_setup::NamedClient;
@@ -368,11 +368,15 @@ fn import_files<'a, R: Host, W: Sink>(
     requires { W.is_broken output.old ≡ false }
 {
     let setup = Input::read(rt, import.setup)?;
+    let files = HostFolders {
+        rt,
+        folder: import.folder,
+    };
     let ImportedText {
         script,
         notices,
         status,
-    } = imported(rt, &setup, import)?;
+    } = imported(rt, &files, &setup, import)?;
     write(script.as_str(), output)?;
     Ok(Done {
         status,

@@ -1,5 +1,6 @@
 pub mod Files
 pub mod Fleeting
+pub mod Grouped
 pub mod Known
 pub mod Leaving
 pub mod Remembered

@@ -17,7 +17,7 @@ use Rattle.rb_import_check.specs.declared.signed.Signatures.{Signatures}
 use Rattle.rb_script_types.specs.declared.script.Script.{Script}
 use Rattle.ibcplan_folders.specs.Files.{IsMadeOf}
 use Rattle.ibcplan_folders.specs.Folders.{AnswerFile, AreAnswersIn, OfKnown}
-use Rattle.ibcplan_folders.specs.declared.importing.Votes.TheVariants.{LeftOut}
+use Rattle.ibcplan_folders.specs.declared.reading.Votes.TheVariants.{LeftOut}
 use Rattle.ibcplan_folders.specs.declared.left_out.Fleet.{Fleet}
 
 -- whether a client tracks the chain at a place

@@ -9,7 +9,7 @@ use Rattle.rb_messages.specs.Sources.{AreTold}
 use Rattle.rb_messages.specs.declared.message.MessageFile.{MessageFile}
 use Rattle.rb_messages.specs.declared.update.PlannedUpdate.{PlannedUpdate}
 use Rattle.ibcplan_folders.specs.Folders.{AnswerFile, AreAnswersIn, OfKnown}
-use Rattle.ibcplan_folders.specs.declared.importing.Votes.TheVariants.{Kept}
+use Rattle.ibcplan_folders.specs.declared.reading.Votes.TheVariants.{Kept}
 
 -- whether one of the updates is of the chain at a place
 abbrev pub is_updated : List PlannedUpdate → ℕ → Bool

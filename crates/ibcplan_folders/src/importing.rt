@@ -3,34 +3,34 @@
 ghost use Rattle.std.specs.Prelude.{◌≡◌, ◌∷◌, ◌++◌, [], IfOk, MatchOption, Ok, OnOk, codes, is_some, map, slice_get, string_bytes, true};
 ghost use Rattle.std.specs.List.{AllZip, enumerate_from, list_any};
 ghost use Rattle.std.specs.Str.{bytes_eq};
-ghost use Rattle.sha2.specs.Sha256.{sha256};
-ghost use Rattle.rb_import_answers.specs.Answers.{answer_view, told_in, verdicts_file, without_votes};
+ghost use Rattle.rb_import_answers.specs.Answers.{verdicts_file};
 ghost use Rattle.rb_import_answers.specs.Revisions.{IsRevision};
-ghost use Rattle.rb_import_check.specs.Saved.{is_commit};
 ghost use Rattle.rb_script_types.specs.Script.{IsReadScript, script_view};
 ghost use Rattle.rb_script_read.specs.Work.{little};
 ghost use Rattle.rb_import.specs.Openings.{Opens, hold_verdicts};
-ghost use Rattle.ibcplan_folders.specs.Files.{HasVerdicts, IsScriptOfRest, TellsIn, signatures_of};
+ghost use Rattle.ibcplan_folders.specs.Files.{IsScriptOfRest, signatures_of};
 ghost use Rattle.ibcplan_folders.specs.Fleets.{AreTold, ChainHas, ChainsHave, ClientHas, ClientsHave, IsFleetOf, IsMadeBy, IsRestOf, PathsHave, path_ids};
 ghost use Rattle.ibcplan_folders.specs.Leavings.{HasMore, IsLeftOf, IsMadeOfLeft, OrFailed, StaysWhole, failed};
-ghost use Rattle.ibcplan_folders.specs.Folders.{AreAnswersIn, IsAnswerIn, OfKnown, is_judged_in};
+ghost use Rattle.ibcplan_folders.specs.Folders.{AreAnswersIn, IsAnswerIn, IsFileIn, OfKnown, is_judged_in};
 ghost use Rattle.ibcplan_folders.specs.LeftOut.{import_status};
 
-use crate::answer_folders::{AnswerFolders, HostFolders};
-use crate::file_system::FileSystem;
+use crate::answer_folders::AnswerFolders;
 use crate::left_out::{Failure, Failures, Fleet, LeftOut, is_tracked};
-use ibcplan_cli::{Import, Input, ProgramError, shown_text};
+use crate::reading::{
+    FileBytes, MAX_GROUP_BYTES, Reading, Votes, out_of_memory, refused, with_answers,
+};
+use ibcplan_cli::{Import, Input, ProgramError};
 use rb_base::ChainId;
 use rb_import::{Composed, Made, compose, make};
 use rb_import_answers::revision_of;
-use rb_import_check::{CheckError, Saved, SavedAnswers, SavedError, Signatures, read_saved};
-use rb_import_json::{FieldError, FieldErrorName};
+use rb_import_check::{CheckError, Saved, SavedAnswers, Signatures};
 use rb_import_merge::ImportErrors;
 use rb_import_notices::Notices;
 use rb_import_setup::{ClientSetup, ImportSetup, PathSetup, read_setup};
 use rb_script_types::Script;
 use std::alloc::{AllocError, Global};
 use std::io;
+use std::thread::Threads;
 
 /// The text of a script, lines that tell what is left out and which answers aren't there, and the status to end with.
 #[derive(Drop)]
@@ -49,22 +49,20 @@ pub struct MadeScript {
 }
 
 /// The text of the script that a setup and the answers in a folder make.
-pub fn imported<'a, R: FileSystem>(
+pub fn imported<'a, R: Threads + Sync, F: AnswerFolders>(
     rt: &R,
+    files: &F,
     input: &Input<'a>,
     import: Import<'_>,
 ) -> Result<ImportedText, ProgramError<'a>> {
-    let mut left_out = LeftOut::nothing(rt.alloc());
-    let files = HostFolders {
-        rt,
-        folder: import.folder,
-    };
-    let fleet = fleet_of(&files, input, import, &mut left_out)?;
-    composed(rt.alloc(), fleet, import, left_out)
+    let mut left_out = LeftOut::nothing(files.alloc());
+    let fleet = fleet_of(rt, files, input, import, &mut left_out)?;
+    composed(files.alloc(), fleet, import, left_out)
 }
 
 /// The script that a setup and the answers in a folder make, of which `imported` gives the text.
-pub fn made<'a, F: AnswerFolders>(
+pub fn made<'a, R: Threads + Sync, F: AnswerFolders>(
+    rt: &R,
     files: &F,
     input: &Input<'a>,
     import: Import<'_>,
@@ -74,12 +72,13 @@ pub fn made<'a, F: AnswerFolders>(
     ensures script { IfOk result (λ made. IsMadeBy (F.known files.now) input.now (signatures_of import.entry) made.status made.script) }
 {
     let mut left_out = LeftOut::nothing(files.alloc());
-    let fleet = fleet_of(files, input, import, &mut left_out)?;
+    let fleet = fleet_of(rt, files, input, import, &mut left_out)?;
     scripted(files.alloc(), fleet, import, left_out)
 }
 
 /// The setup of an input, with the answers in a folder.
-fn fleet_of<'a, F: AnswerFolders>(
+fn fleet_of<'a, R: Threads + Sync, F: AnswerFolders>(
+    rt: &R,
     files: &F,
     input: &Input<'a>,
     import: Import<'_>,
@@ -88,7 +87,7 @@ fn fleet_of<'a, F: AnswerFolders>(
     ensures { IfOk result (IsFleetOf (F.known files.now) input.now (import_status left_out.new)) }
 {
     match read_setup(files.alloc(), input.bytes()) {
-        Ok(setup) => read_fleet(files, setup, import, left_out),
+        Ok(setup) => read_fleet(rt, files, setup, import, left_out),
         Err(error) => Err(ProgramError::of_setup(error, input)),
     }
 }
@@ -243,13 +242,6 @@ fn failure_at<'a>(
     }
 }
 
-fn refused<'a>(text: Result<String, AllocError>) -> ProgramError<'a> {
-    match text {
-        Ok(text) => ProgramError::RefusedAnswers(text),
-        Err(_) => ProgramError::NoMemory,
-    }
-}
-
 /// A setup without answers.
 fn without_answers(alloc: Global, setup: ImportSetup) -> Fleet
     ensures { result.setup ≡ setup }
@@ -264,7 +256,8 @@ fn without_answers(alloc: Global, setup: ImportSetup) -> Fleet
 
 /// Reads the answers of the chains that clients track, of the clients and of the paths, each from the folder of its
 /// identifier.
-fn read_fleet<'a, F: AnswerFolders>(
+fn read_fleet<'a, R: Threads + Sync, F: AnswerFolders>(
+    rt: &R,
     files: &F,
     setup: ImportSetup,
     import: Import<'_>,
@@ -277,13 +270,14 @@ fn read_fleet<'a, F: AnswerFolders>(
     ensures paths { IfOk result (PathsHave (AreTold (F.known files.now))) }
 {
     let empty = without_answers(files.alloc(), setup);
-    let chains = with_chains(files, empty, import, left_out)?;
-    let clients = with_clients(files, chains, import, left_out)?;
-    with_paths(files, clients, import, left_out)
+    let chains = with_chains(rt, files, empty, import, left_out)?;
+    let clients = with_clients(rt, files, chains, import, left_out)?;
+    with_paths(rt, files, clients, import, left_out)
 }
 
 /// The fleet with the answers of its chains, without what goes with those that are refused.
-fn with_chains<'a, F: AnswerFolders>(
+fn with_chains<'a, R: Threads + Sync, F: AnswerFolders>(
+    rt: &R,
     files: &F,
     fleet: Fleet,
     import: Import<'_>,
@@ -296,6 +290,7 @@ fn with_chains<'a, F: AnswerFolders>(
     let mut fleet = fleet;
     let mut failures = Vec::new(files.alloc());
     let chains = chain_answers(
+        rt,
         files,
         fleet.setup.chains.as_slice(),
         &fleet.setup,
@@ -307,7 +302,8 @@ fn with_chains<'a, F: AnswerFolders>(
 }
 
 /// The same of its clients.
-fn with_clients<'a, F: AnswerFolders>(
+fn with_clients<'a, R: Threads + Sync, F: AnswerFolders>(
+    rt: &R,
     files: &F,
     fleet: Fleet,
     import: Import<'_>,
@@ -322,6 +318,7 @@ fn with_clients<'a, F: AnswerFolders>(
     let mut fleet = fleet;
     let mut failures = Vec::new(files.alloc());
     let clients = client_answers(
+        rt,
         files,
         fleet.setup.chains.as_slice(),
         fleet.setup.clients.as_slice(),
@@ -333,7 +330,8 @@ fn with_clients<'a, F: AnswerFolders>(
 }
 
 /// The same of its paths.
-fn with_paths<'a, F: AnswerFolders>(
+fn with_paths<'a, R: Threads + Sync, F: AnswerFolders>(
+    rt: &R,
     files: &F,
     fleet: Fleet,
     import: Import<'_>,
@@ -349,7 +347,13 @@ fn with_paths<'a, F: AnswerFolders>(
 {
     let mut fleet = fleet;
     let mut failures = Vec::new(files.alloc());
-    let paths = path_answers(files, fleet.setup.paths.as_slice(), import, &mut failures)?;
+    let paths = path_answers(
+        rt,
+        files,
+        fleet.setup.paths.as_slice(),
+        import,
+        &mut failures,
+    )?;
     fleet.answers.paths = paths;
     without_all(files.alloc(), fleet, failures, left_out)
 }
@@ -373,7 +377,8 @@ fn without_all<'a>(
 }
 
 /// The answers of the chains, none of one that no client tracks.
-fn chain_answers<'a, F: AnswerFolders>(
+fn chain_answers<'a, R: Threads + Sync, F: AnswerFolders>(
+    rt: &R,
     files: &F,
     chains: &[ChainId],
     setup: &ImportSetup,
@@ -385,14 +390,15 @@ fn chain_answers<'a, F: AnswerFolders>(
     let mut answers = Vec::new(files.alloc());
     for (place, chain) in chains.iter().enumerate() {
         let is_needed = is_tracked(setup, place);
-        let saved = needed_answers(files, import, chain.as_str(), is_needed, failures)?;
+        let saved = needed_answers(rt, files, import, chain.as_str(), is_needed, failures)?;
         add(&mut answers, saved)?;
     }
     Ok(answers)
 }
 
 /// The answers of a chain, if they are needed.
-fn needed_answers<'a, F: AnswerFolders>(
+fn needed_answers<'a, R: Threads + Sync, F: AnswerFolders>(
+    rt: &R,
     files: &F,
     import: Import<'_>,
     id: &str,
@@ -403,14 +409,15 @@ fn needed_answers<'a, F: AnswerFolders>(
     ensures more { OnOk result (HasMore (failed failures.old.items) (failed failures.new.items)) }
 {
     if is_needed {
-        answers_of(files, import, id, 0, failures)
+        answers_of(rt, files, import, id, 0, failures)
     } else {
         Ok(Vec::new(files.alloc()))
     }
 }
 
 /// The answers of clients.
-fn client_answers<'a, F: AnswerFolders>(
+fn client_answers<'a, R: Threads + Sync, F: AnswerFolders>(
+    rt: &R,
     files: &F,
     chains: &[ChainId],
     clients: &[ClientSetup],
@@ -422,14 +429,15 @@ fn client_answers<'a, F: AnswerFolders>(
     let mut answers = Vec::new(files.alloc());
     for client in clients {
         let since = tracked_revision(chains, client);
-        let saved = answers_of(files, import, client.id.as_str(), since, failures)?;
+        let saved = answers_of(rt, files, import, client.id.as_str(), since, failures)?;
         add(&mut answers, saved)?;
     }
     Ok(answers)
 }
 
 /// The answers of paths.
-fn path_answers<'a, F: AnswerFolders>(
+fn path_answers<'a, R: Threads + Sync, F: AnswerFolders>(
+    rt: &R,
     files: &F,
     paths: &[PathSetup],
     import: Import<'_>,
@@ -439,7 +447,7 @@ fn path_answers<'a, F: AnswerFolders>(
 {
     let mut answers = Vec::new(files.alloc());
     for path in paths {
-        let saved = answers_of(files, import, path.config.id.as_str(), 0, failures)?;
+        let saved = answers_of(rt, files, import, path.config.id.as_str(), 0, failures)?;
         add(&mut answers, saved)?;
     }
     Ok(answers)
@@ -457,7 +465,8 @@ pub fn tracked_revision(chains: &[ChainId], client: &ClientSetup) -> u64
 
 /// The answers of a chain, a client or a path, of a client's records those of this revision and of later ones; none where
 /// they are refused, which is then a failure of it.
-fn answers_of<'a, F: AnswerFolders>(
+fn answers_of<'a, R: Threads + Sync, F: AnswerFolders>(
+    rt: &R,
     files: &F,
     import: Import<'_>,
     id: &str,
@@ -467,7 +476,7 @@ fn answers_of<'a, F: AnswerFolders>(
     ensures told { IfOk result (OrFailed (AreTold (F.known files.now)) (failed failures.new.items) since id.now) }
     ensures more { OnOk result (HasMore (failed failures.old.items) (failed failures.new.items)) }
 {
-    match read_folder(files, id, since, Votes::LeftOut) {
+    match read_folder(rt, files, id, since, Votes::LeftOut) {
         Ok(saved) => Ok(saved),
         Err(error) if import.is_all_or_nothing || !is_of_answers(&error) => Err(error),
         Err(error) => {
@@ -495,15 +504,9 @@ pub fn add<'a, T: Drop>(items: &mut Vec<T>, item: T) -> Result<(), ProgramError<
     }
 }
 
-/// Whether the votes of commits are kept; a script needs their flags and addresses alone.
-#[derive(Clone, Copy)]
-pub enum Votes {
-    Kept,
-    LeftOut,
-}
-
 /// Reads the answers in the folder of an identifier, by their names.
-pub fn read_folder<'a, F: AnswerFolders>(
+pub fn read_folder<'a, R: Threads + Sync, F: AnswerFolders>(
+    rt: &R,
     files: &F,
     id: &str,
     since: u64,
@@ -515,8 +518,12 @@ pub fn read_folder<'a, F: AnswerFolders>(
         Ok(names) => names,
         Err(error) => return Err(of_folder(files, id, error)),
     };
-    let is_judged = has_verdicts(names.as_slice());
-    read_files(files, id, names.as_slice(), since, votes, is_judged)
+    let reading = Reading {
+        since,
+        votes,
+        is_judged: has_verdicts(names.as_slice()),
+    };
+    read_files(rt, files, id, names.as_slice(), reading)
 }
 
 /// Whether verdicts stand among files of these names.
@@ -573,144 +580,56 @@ fn place_in<'a, F: AnswerFolders>(
     }
 }
 
-/// Reads the answers in files of a folder.
-fn read_files<'a, F: AnswerFolders>(
+/// Reads the answers in files of a folder. They are read in their order; those of small files are taken together.
+fn read_files<'a, R: Threads + Sync, F: AnswerFolders>(
+    rt: &R,
     files: &F,
     folder: &str,
     names: &[String],
-    since: u64,
-    votes: Votes,
-    is_judged: bool,
+    reading: Reading,
 ) -> Result<Vec<Saved>, ProgramError<'a>>
-    requires { OfKnown (F.known files.now) (λ known. is_judged ≡ is_judged_in folder.now known) }
-    ensures { IfOk result (λ saved. OfKnown (F.known files.now) (λ known. AllZip (IsAnswerIn votes since folder.now known) (map string_bytes names.now) saved.items)) }
+    requires { OfKnown (F.known files.now) (λ known. reading.is_judged ≡ is_judged_in folder.now known) }
+    ensures { IfOk result (λ saved. OfKnown (F.known files.now) (λ known. AllZip (IsAnswerIn reading.votes reading.since folder.now known) (map string_bytes names.now) saved.items)) }
 {
     let mut answers = Vec::new(files.alloc());
+    let mut group = Vec::new(files.alloc());
+    let mut size: usize = 0;
     for name in names {
-        let saved = read_file(files, folder, name.as_str(), since, votes, is_judged)?;
-        add(&mut answers, saved)?;
+        let read = read_file(files, folder, name.as_str());
+        if !fits(&read, size) {
+            answers = with_answers(rt, files.alloc(), reading, answers, group.as_slice())?;
+            group = Vec::new(files.alloc());
+            size = 0;
+        }
+        let file = read?;
+        size = size.saturating_add(file.bytes.len());
+        add(&mut group, file)?;
     }
-    Ok(answers)
+    with_answers(rt, files.alloc(), reading, answers, group.as_slice())
 }
 
-fn without_votes(alloc: Global, saved: Saved) -> Saved
-    ensures file { result.file ≡ saved.file }
-    ensures digest { result.digest ≡ saved.digest }
-    ensures answer { answer_view result.answer ≡ without_votes (answer_view saved.answer) }
-{
-    let Saved {
-        file,
-        digest,
-        answer,
-    } = saved;
-    Saved {
-        file,
-        digest,
-        answer: answer.without_votes(alloc),
+/// Whether a file was read that fits beside so many bytes of others.
+fn fits(read: &Result<FileBytes<'_>, ProgramError<'_>>, size: usize) -> bool {
+    match read {
+        Ok(file) => size.saturating_add(file.bytes.len()) <= MAX_GROUP_BYTES,
+        Err(_) => false,
     }
 }
 
-/// Reads the answer in a file.
-fn read_file<'a, F: AnswerFolders>(
+/// Reads a folder's file of this name.
+fn read_file<'a, 'n, F: AnswerFolders>(
     files: &F,
     folder: &str,
-    name: &str,
-    since: u64,
-    votes: Votes,
-    is_judged: bool,
-) -> Result<Saved, ProgramError<'a>>
-    requires { OfKnown (F.known files.now) (λ known. is_judged ≡ is_judged_in folder.now known) }
-    ensures answer { IfOk result (λ saved. OfKnown (F.known files.now) (λ known. IsAnswerIn votes since folder.now known name.now saved)) }
-    ensures verdicts { IfOk result (λ saved. HasVerdicts saved.answer → name.now ≡ verdicts_file) }
+    name: &'n str,
+) -> Result<FileBytes<'n>, ProgramError<'a>>
+    ensures { IfOk result (λ file. OfKnown (F.known files.now) (λ known. IsFileIn folder.now file name.now known)) }
 {
-    let file = place_in(files, folder, name)?;
+    let place = place_in(files, folder, name)?;
     match files.read(folder, name) {
-        Ok(bytes) => {
-            let bytes = bytes.as_slice();
-            let saved = saved_of(files.alloc(), file.as_str(), name, bytes, since, is_judged)?;
-            match votes {
-                Votes::Kept => Ok(saved),
-                Votes::LeftOut => Ok(without_votes(files.alloc(), saved)),
-            }
-        }
+        Ok(bytes) => Ok(FileBytes { place, name, bytes }),
         Err(error) if error.kind() == io::ErrorKind::OutOfMemory => {
-            Err(out_of_memory(files.alloc(), file.as_str()))
+            Err(out_of_memory(files.alloc(), place.as_str()))
         }
-        Err(error) => Err(ProgramError::of_file(files.alloc(), file.as_str(), error)),
+        Err(error) => Err(ProgramError::of_file(files.alloc(), place.as_str(), error)),
     }
-}
-
-/// The answer that the bytes of a file of this name hold, of a client's records those of this revision and of later
-/// ones. Verdicts count only in the file `verdicts.json`.
-fn saved_of<'a>(
-    alloc: Global,
-    file: &str,
-    name: &str,
-    bytes: &[u8],
-    since: u64,
-    is_judged: bool,
-) -> Result<Saved, ProgramError<'a>>
-    ensures digest { IfOk result (λ saved. is_judged ≡ true → is_commit (answer_view saved.answer) ≡ true → saved.digest ≡ sha256 bytes.now) }
-    ensures answer { IfOk result (λ saved. TellsIn name.now since bytes.now (answer_view saved.answer)) }
-    ensures verdicts { IfOk result (λ saved. HasVerdicts saved.answer → name.now ≡ verdicts_file) }
-{
-    let Ok(shown) = shown_text(alloc, file) else {
-        return Err(ProgramError::NoMemory);
-    };
-    match read_saved(alloc, shown, bytes, since, is_judged) {
-        Ok(saved) => Ok(in_file(saved, name)),
-        Err(SavedError::NoMemory) => Err(out_of_memory(alloc, file)),
-        Err(SavedError::Invalid { file, flaw, said }) => {
-            Err(refused_file(alloc, file.as_str(), flaw, said.as_str()))
-        }
-    }
-}
-
-/// An answer as the file of a name has it.
-#[tactic(auto, using(crate::proofs::Files::naming))]
-fn in_file(saved: Saved, name: &str) -> Saved
-    ensures digest { result.digest ≡ saved.digest }
-    ensures commit { is_commit (answer_view result.answer) ≡ true → is_commit (answer_view saved.answer) ≡ true }
-    ensures answer { answer_view result.answer ≡ told_in name.now (answer_view saved.answer) }
-    ensures verdicts { HasVerdicts result.answer → name.now ≡ verdicts_file }
-{
-    let Saved {
-        file,
-        digest,
-        answer,
-    } = saved;
-    Saved {
-        file,
-        digest,
-        answer: answer.in_file(name),
-    }
-}
-
-/// Why a file holds no answer.
-fn refused_file<'a>(alloc: Global, file: &str, flaw: FieldError, said: &str) -> ProgramError<'a> {
-    let Ok(said) = said_words(alloc, flaw.name, said) else {
-        return ProgramError::NoMemory;
-    };
-    let advice = flaw.name.advice();
-    refused(format!(in alloc; "refused {flaw}\n{file}: {advice}{said}"))
-}
-
-/// What a node said in the place of an answer, or which client it told of, if it said something, as an end of the line
-/// that refuses it.
-fn said_words(alloc: Global, flaw: FieldErrorName, said: &str) -> Result<String, AllocError> {
-    match flaw {
-        _ if said.is_empty() => Ok(String::new(alloc)),
-        FieldErrorName::UnsupportedClient => format!(in alloc; "; this one is \"{said}\""),
-        _ => format!(in alloc; "; it said \"{said}\""),
-    }
-}
-
-/// That there is no memory to read the answer in a file, which is then refused as others are.
-fn out_of_memory<'a>(alloc: Global, file: &str) -> ProgramError<'a> {
-    let Ok(file) = shown_text(alloc, file) else {
-        return ProgramError::NoMemory;
-    };
-    refused(format!(in alloc;
-        "refused OutOfMemory at -\n{file}: the system gives no memory to read it (as `ulimit -v` bounds it); give more, or ask for fewer on a page (per_page=20)"
-    ))
 }

@@ -9,6 +9,7 @@ mod left_out;
 mod memory_folders;
 mod messaging;
 mod packets;
+mod reading;
 mod wanting;
 
 pub use answer_folders::{AnswerFolders, HostFolders};

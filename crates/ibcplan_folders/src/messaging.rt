@@ -4,11 +4,12 @@ ghost use Rattle.std.specs.List.{enumerate_from};
 ghost use Rattle.rb_messages.specs.Names.{file_name};
 ghost use Rattle.ibcplan_folders.specs.Folders.{AreAnswersIn, OfKnown};
 ghost use Rattle.ibcplan_folders.specs.Messages.{AreAnswersOn, AreMessagesBy, is_updated};
-ghost use Rattle.ibcplan_folders.specs.declared.importing.Votes.TheVariants.{Kept};
+ghost use Rattle.ibcplan_folders.specs.declared.reading.Votes.TheVariants.{Kept};
 
 use crate::answer_folders::AnswerFolders;
 use crate::file_system::FileSystem;
-use crate::importing::{Votes, add, path_in, read_folder};
+use crate::importing::{add, path_in, read_folder};
+use crate::reading::Votes;
 use ibcplan_cli::ProgramError;
 use rb_base::ChainId;
 use rb_import_check::Saved;
@@ -18,9 +19,11 @@ use rb_messages::{
 };
 use std::alloc::{AllocError, Global};
 use std::fs;
+use std::thread::Threads;
 
 /// The answers on each chain, from the folder of its identifier; none on a chain that no update is of.
-pub fn read_answers<'a, F: AnswerFolders>(
+pub fn read_answers<'a, R: Threads + Sync, F: AnswerFolders>(
+    rt: &R,
     files: &F,
     chains: &[ChainId],
     updates: &[PlannedUpdate],
@@ -30,14 +33,15 @@ pub fn read_answers<'a, F: AnswerFolders>(
     let mut answers = Vec::new(files.alloc());
     for (place, chain) in chains.iter().enumerate() {
         let is_needed = is_updated(updates, place);
-        let one = answers_on(files, chain.as_str(), is_needed)?;
+        let one = answers_on(rt, files, chain.as_str(), is_needed)?;
         add(&mut answers, one)?;
     }
     Ok(answers)
 }
 
 /// The answers on a chain, if they are needed.
-fn answers_on<'a, F: AnswerFolders>(
+fn answers_on<'a, R: Threads + Sync, F: AnswerFolders>(
+    rt: &R,
     files: &F,
     chain: &str,
     is_needed: bool,
@@ -45,7 +49,7 @@ fn answers_on<'a, F: AnswerFolders>(
     ensures { IfOk result (λ saved. OfKnown (F.known files.now) (λ known. is_needed ≡ true → AreAnswersIn Kept 0 chain.now known saved.items)) }
 {
     if is_needed {
-        read_folder(files, chain, 0, Votes::Kept)
+        read_folder(rt, files, chain, 0, Votes::Kept)
     } else {
         Ok(Vec::new(files.alloc()))
     }

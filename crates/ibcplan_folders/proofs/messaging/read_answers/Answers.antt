@@ -1,6 +1,6 @@
 use Rattle.ibcplan_folders.specs.Folders.{AreAnswersIn}
 use Rattle.ibcplan_folders.specs.Messages.{AreAnswersAt}
-use Rattle.ibcplan_folders.specs.declared.importing.Votes.TheVariants.{Kept}
+use Rattle.ibcplan_folders.specs.declared.reading.Votes.TheVariants.{Kept}
 use Rattle.ibcplan_folders.proofs.Known.{known_places, known_placed, needed_at}
 use Rattle.ibcplan_folders.proofs.messaging.read_answers.Goals as goal
 
