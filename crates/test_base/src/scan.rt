@@ -569,7 +569,7 @@ fn check_parts(
     Ok(())
 }
 
-/// A path owes this, and is equal to its copy.
+/// A path owes this, and is equal to the view of another owner.
 fn check_view(
     rt: &impl Abort,
     view: &PathView,
@@ -578,7 +578,7 @@ fn check_view(
 ) -> Result<(), Fail> {
     check_owed(rt, view, index, wanted)?;
     check_parts(rt, view, index, wanted)?;
-    assert!(rt; view.copy()? == *view, "row {index}");
+    assert!(rt; view.share()? == *view, "row {index}");
     Ok(())
 }
 
